@@ -1,0 +1,7 @@
+pub mod Choice
+pub mod Integers
+pub mod Fit
+pub mod Bytes
+pub mod Bits
+pub mod Tables
+pub mod Lists
