@@ -70,3 +70,7 @@ one-set (suc d) n h e = at (n % 2) refl (λ k l. one-set d (n / 2) k l) where
 
 pub power-of : (n : ℕ) → ones n ≡ 1 → Power n
 power-of n e = one-set n n (N.le-refl n) e
+
+-- a bit times y is at most y
+pub bit-le : (b y : ℕ) → b ≤ 1 → b * y ≤ y
+bit-le b y h = omega (arith, N.mul-le-mul-right y h, N.one-mul y)

@@ -136,16 +136,13 @@ cut x y r w h =
     same x y k h =
         low (x + 65536 * y) k h ∙ ap (λ (n : ℕ). n % 2 ^ k) (add-mul-mod-self-left x 65536 y) ∙ sym (low x k h)
 
--- the field at bit at, of width w: in the window of the bytes at / 8 and the next
-pub window : (bs : List ℕ) → ((i : ℕ) → getD bs i 0 < 256) → (at w : ℕ) → w ≤ 8 → field bs at w ≡ (getD bs (at / 8) 0 + 256 * getD bs (at / 8 + 1) 0) / 2 ^ (at % 8) % 2 ^ w
-window bs h at w l =
-    ap (λ (n : ℕ). le bs / 2 ^ n % 2 ^ w) (parts at) ∙ ap (λ (n : ℕ). n % 2 ^ w) (sym (P.shr-shr (le bs) (8 * (at / 8)) (at % 8)))
-    ∙ ap (λ (n : ℕ). n / 2 ^ (at % 8) % 2 ^ w) (shift bs h (at / 8) ∙ two (drop (at / 8) bs))
-    ∙ cut _ _ (at % 8) w (omega arith)
-    ∙ ap (λ (n : ℕ). n / 2 ^ (at % 8) % 2 ^ w) (heads (at / 8))
+-- the field of width w at bit 8 k + r: in the window of byte k and the next
+pub window : (bs : List ℕ) → ((i : ℕ) → getD bs i 0 < 256) → (k r w : ℕ) → r ≤ 7 → w ≤ 8 → field bs (8 * k + r) w ≡ (getD bs k 0 + 256 * getD bs (k + 1) 0) / 2 ^ r % 2 ^ w
+window bs h k r w l m =
+    ap (λ (n : ℕ). n % 2 ^ w) (sym (P.shr-shr (le bs) (8 * k) r))
+    ∙ ap (λ (n : ℕ). n / 2 ^ r % 2 ^ w) (shift bs h k ∙ two (drop k bs))
+    ∙ cut _ _ r w (omega arith)
+    ∙ ap (λ (n : ℕ). n / 2 ^ r % 2 ^ w) (heads k)
   where
-    parts : (n : ℕ) → n ≡ 8 * (n / 8) + n % 8
-    parts n = omega arith
-
     heads : (k : ℕ) → getD (drop k bs) 0 0 + 256 * getD (drop k bs) 1 0 ≡ getD bs k 0 + 256 * getD bs (k + 1) 0
-    heads k = rw (getD-drop, getD-drop) (ap (λ (n : ℕ). getD bs n 0 + 256 * getD bs (k + 1) 0) (omega arith))
+    heads k = rw (getD-drop k bs 0 0, getD-drop k bs 1 0, add-zero k)

@@ -1,0 +1,4 @@
+pub mod Tables
+pub mod Volume
+pub mod Ima
+pub mod Packed

@@ -1,0 +1,37 @@
+-- Bounds of the tables' entries, each by one computed test over its table. Assumes nothing.
+use mathlib.Core.Bool.{Bool, true, false, cond}
+use mathlib.Core.List.{List, [], _∷_}
+use Prim.Native.Nat.{ℕ, _%_, _^_, _<_, _≤_, min}
+use lib.Dec.{T, ltb, leb, eqb, ltb→lt, leb→le}
+use lib.ListN.{getD}
+use lib.IntN.{ℤ, pos, natAbs}
+use Rattle.num.proofs.Choice.{cond-by}
+use Rattle.num.proofs.Tables.{allOf, at-all}
+use Rattle.adpcm.specs.declared.Variant.{Variant}
+use Rattle.adpcm.specs.declared.Variant.the-variants.{H, L, LPlus}
+use Rattle.adpcm.specs.Ima.{stepSizes, stepSize, indexTable}
+use Rattle.adpcm.specs.Codes.{levelsOf, levelIndexes, adjustOf}
+
+pub step-lt : (i : ℕ) → stepSize i < 2 ^ 15
+unfolding stepSizes stepSize
+step-lt i = ltb→lt (stepSize i) (2 ^ 15) (at-all (λ x. ltb x (2 ^ 15)) 0 tt stepSizes tt (min i 88))
+
+level : (levels : List ℕ) → T (allOf (λ x. leb x 14) levels) → (i : ℕ) → getD levels i 0 ≤ 14
+level levels t i = leb→le (getD levels i 0) 14 (at-all (λ x. leb x 14) 0 tt levels t i)
+
+pub level-le : (version : ℕ) (k : Variant) (i : ℕ) → getD (levelsOf version k) i 0 ≤ 14
+unfolding levelsOf
+level-le version H i = level [] tt i
+level-le version L i = level (1 ∷ 3 ∷ 5 ∷ 7 ∷ []) tt i
+level-le version LPlus i =
+    cond-by (λ (l : List ℕ). getD l i 0 ≤ 14) (eqb version 1) (10 ∷ 11 ∷ 12 ∷ 14 ∷ []) (1 ∷ 2 ∷ 3 ∷ 14 ∷ [])
+    (λ e. level (10 ∷ 11 ∷ 12 ∷ 14 ∷ []) tt i) (λ e. level (1 ∷ 2 ∷ 3 ∷ 14 ∷ []) tt i)
+
+small : (table : List ℤ) → T (allOf (λ z. leb (natAbs z) 8) table) → (i : ℕ) → natAbs (getD table i (pos 0)) ≤ 8
+small table t i = leb→le (natAbs (getD table i (pos 0))) 8 (at-all (λ z. leb (natAbs z) 8) (pos 0) tt table t i)
+
+pub adjust-le : (k : Variant) (code : ℕ) → natAbs (adjustOf k code) ≤ 8
+unfolding adjustOf indexTable levelIndexes
+adjust-le H code = small indexTable tt (code % 16)
+adjust-le L code = small levelIndexes tt (code % 4)
+adjust-le LPlus code = small levelIndexes tt (code % 4)

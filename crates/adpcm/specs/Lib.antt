@@ -1,0 +1,2 @@
+pub mod Ima
+pub mod Codes

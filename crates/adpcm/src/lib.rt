@@ -1,0 +1,325 @@
+// One code of an SQV4 stream: its variants, the decoder's state, packed codes and the volume rules.
+ghost use mathlib.Core.Path.{_≡_};
+ghost use Prim.Native.Nat.{ℕ, _+_, _*_, _%_, _^_, _<_, _≤_, min};
+ghost use lib.Dec.{eqb};
+ghost use lib.IntN.{ℤ, pos, natAbs};
+ghost use lib.ListN.{getD};
+ghost use Rattle.adpcm.specs.Ima.{stepSize, difference as imaDifference, indexAfter};
+ghost use Rattle.adpcm.specs.Codes.{variantOf, bitsOf, payloadBytes, fragmentSize, legacyFragmentSize, levelsOf, levelDifference, deltaOf, adjustOf, updateOf, decodeCode, volumeOf, legacyVolumeOf, codeAt};
+
+pub enum Variant {
+    H,
+    L,
+    LPlus,
+}
+
+// A variant's byte in a file's header.
+pub enum VariantByte {
+    Known(Variant),
+    Unknown,
+}
+
+pub struct State {
+    pub predictor: i16,
+    pub index: usize,
+}
+
+const STEPS: [u32; 89] = [
+    7,
+    8,
+    9,
+    10,
+    11,
+    12,
+    13,
+    14,
+    16,
+    17,
+    19,
+    21,
+    23,
+    25,
+    28,
+    31,
+    34,
+    37,
+    41,
+    45,
+    50,
+    55,
+    60,
+    66,
+    73,
+    80,
+    88,
+    97,
+    107,
+    118,
+    130,
+    143,
+    157,
+    173,
+    190,
+    209,
+    230,
+    253,
+    279,
+    307,
+    337,
+    371,
+    408,
+    449,
+    494,
+    544,
+    598,
+    658,
+    724,
+    796,
+    876,
+    963,
+    1060,
+    1166,
+    1282,
+    1411,
+    1552,
+    1707,
+    1878,
+    2066,
+    2272,
+    2499,
+    2749,
+    3024,
+    3327,
+    3660,
+    4026,
+    4428,
+    4871,
+    5358,
+    5894,
+    6484,
+    7132,
+    7845,
+    8630,
+    9493,
+    10442,
+    11487,
+    12635,
+    13899,
+    15289,
+    16818,
+    18500,
+    20350,
+    22385,
+    24623,
+    27086,
+    29794,
+    32767,
+];
+
+const H_INDEX_ADJUST: [i32; 16] = [-1, -1, -1, -1, 2, 4, 6, 8, -1, -1, -1, -1, 2, 4, 6, 8];
+
+const L_INDEX_ADJUST: [i32; 4] = [-1, 2, 4, 6];
+
+const LEGACY_L_PLUS_LEVELS: [u32; 4] = [10, 11, 12, 14];
+
+const L_PLUS_LEVELS: [u32; 4] = [1, 2, 3, 14];
+
+const L_LEVELS: [u32; 4] = [1, 3, 5, 7];
+
+impl Variant {
+    pub fn try_from(value: u8) -> VariantByte
+        ensures { λ r. ⌜ r ≡ variantOf value ⌝ }
+    {
+        match value {
+            0 => VariantByte::Known(Variant::H),
+            1 => VariantByte::Known(Variant::L),
+            2 => VariantByte::Known(Variant::LPlus),
+            _ => VariantByte::Unknown,
+        }
+    }
+
+    pub fn bits(self) -> usize
+        ensures { λ r. ⌜ r ≡ bitsOf self ⌝ }
+    {
+        match self {
+            Variant::H => 4,
+            Variant::L => 3,
+            Variant::LPlus => 3,
+        }
+    }
+
+    // The packed codes of a version 3 fragment: 63, in whole bytes.
+    pub fn payload_bytes(self) -> usize
+        ensures { λ r. ⌜ r ≡ payloadBytes self ⌝ }
+    {
+        match self {
+            Variant::H => 32,
+            Variant::L => 24,
+            Variant::LPlus => 24,
+        }
+    }
+
+    // A version 3 fragment: volume, step index, packed codes.
+    pub fn fragment_size(self) -> usize
+        ensures { λ r. ⌜ r ≡ fragmentSize self ⌝ }
+    {
+        match self {
+            Variant::H => 34,
+            Variant::L => 26,
+            Variant::LPlus => 26,
+        }
+    }
+
+    // A fragment of version 1 or 2: volume and 64 packed codes.
+    pub fn legacy_fragment_size(self) -> usize
+        ensures { λ r. ⌜ r ≡ legacyFragmentSize self ⌝ }
+    {
+        match self {
+            Variant::H => 33,
+            Variant::L => 25,
+            Variant::LPlus => 25,
+        }
+    }
+}
+
+fn step_size(index: usize) -> u32
+    ensures { λ r. ⌜ (r ≡ stepSize index) × (r < 2 ^ 15) ⌝ }
+{
+    let at = num::least(index, 88);
+    STEPS[at]
+}
+
+fn index_after(index: usize, adjust: i32) -> usize
+    requires { ⌜ natAbs adjust ≤ 8 ⌝ }
+    ensures { λ r. ⌜ r ≡ indexAfter index adjust ⌝ }
+{
+    let moved = (num::least(index, 88) as i32) + adjust;
+    if moved < 0 {
+        return 0;
+    }
+    if 88 < moved {
+        return 88;
+    }
+    moved as usize
+}
+
+// H: the parts of a step that three bits select.
+fn difference(step: u32, code: u8) -> u16
+    requires { ⌜ step < 2 ^ 15 ⌝ }
+    ensures { λ r. ⌜ r ≡ imaDifference step code ⌝ }
+{
+    let c = code as u32;
+    let d = c / 4 % 2 * step + c / 2 % 2 * (step / 2) + c % 2 * (step / 4) + step / 8;
+    d as u16
+}
+
+fn level_at(version: u8, variant: Variant, at: usize) -> u32
+    requires { ⌜ at < 4 ⌝ }
+    ensures { λ r. ⌜ (r ≡ getD (levelsOf version variant) at 0) × (r ≤ 14) ⌝ }
+{
+    match variant {
+        Variant::H => 0,
+        Variant::L => L_LEVELS[at],
+        Variant::LPlus => {
+            if version == 1 {
+                LEGACY_L_PLUS_LEVELS[at]
+            } else {
+                L_PLUS_LEVELS[at]
+            }
+        }
+    }
+}
+
+// L and L+: eighths of a step, to the nearest.
+fn level_difference(version: u8, variant: Variant, step: u32, code: u8) -> u16
+    requires { ⌜ step < 2 ^ 15 ⌝ }
+    ensures { λ r. ⌜ r ≡ levelDifference (levelsOf version variant) step code ⌝ }
+{
+    let level = level_at(version, variant, (code % 4) as usize);
+    ((level * step + 4) / 8) as u16
+}
+
+// The difference that a code stands for.
+pub fn delta(version: u8, variant: Variant, state: State, code: u8) -> i32
+    ensures { λ r. ⌜ (r ≡ deltaOf version variant state code) × (natAbs r < 2 ^ 16) ⌝ }
+{
+    let step = step_size(state.index);
+    match variant {
+        Variant::H => num::with_sign(code / 8 % 2 == 1, difference(step, code)),
+        Variant::L => num::with_sign(
+            code / 4 % 2 == 1,
+            level_difference(version, Variant::L, step, code),
+        ),
+        Variant::LPlus => num::with_sign(
+            code / 4 % 2 == 1,
+            level_difference(version, Variant::LPlus, step, code),
+        ),
+    }
+}
+
+// How far a code moves the step index.
+fn adjust(variant: Variant, code: u8) -> i32
+    ensures { λ r. ⌜ (r ≡ adjustOf variant code) × (natAbs r ≤ 8) ⌝ }
+{
+    let four = (code % 16) as usize;
+    let two = (code % 4) as usize;
+    match variant {
+        Variant::H => H_INDEX_ADJUST[four],
+        Variant::L => L_INDEX_ADJUST[two],
+        Variant::LPlus => L_INDEX_ADJUST[two],
+    }
+}
+
+fn update(state: State, delta: i32, adjust: i32) -> State
+    requires { ⌜ (natAbs delta < 2 ^ 16) × (natAbs adjust ≤ 8) ⌝ }
+    ensures { λ r. ⌜ r ≡ updateOf state delta adjust ⌝ }
+{
+    let moved = (state.predictor as i32) + delta;
+    State {
+        predictor: num::clamp16(moved),
+        index: index_after(state.index, adjust),
+    }
+}
+
+// The state after a code: its predictor is the sample ahead of the volume.
+pub fn decode_code(version: u8, variant: Variant, state: State, code: u8) -> State
+    ensures { λ r. ⌜ r ≡ decodeCode version variant state code ⌝ }
+{
+    update(
+        state,
+        delta(version, variant, state, code),
+        adjust(variant, code),
+    )
+}
+
+// Version 3's volume: to the nearest 255th, a tie away from zero.
+pub fn apply_volume(reconstructed: i16, volume: u8) -> i16
+    ensures { λ r. ⌜ r ≡ volumeOf reconstructed volume ⌝ }
+{
+    let size = num::magnitude(reconstructed as i32);
+    let rounded = (size * (volume as u32) + 127) / 255;
+    num::with_sign(reconstructed < 0, rounded as u16) as i16
+}
+
+// The older volume: toward zero.
+pub fn apply_legacy_volume(reconstructed: i16, volume: u8) -> i16
+    ensures { λ r. ⌜ r ≡ legacyVolumeOf reconstructed volume ⌝ }
+{
+    ((reconstructed as i32) * (volume as i32) / 255) as i16
+}
+
+// The code of a sample, of at most 8 bits.
+pub fn unpack_code(input: &[u8], sample: usize, bits: usize) -> u8
+    ensures { λ r. ⌜ r ≡ codeAt (now (input .entry)) sample bits ⌝ }
+{
+    let width = num::least(bits, 8);
+    let within = sample % 8 * width;
+    let at = sample / 8 * width + within / 8;
+    if input.len() <= at {
+        return 0;
+    }
+    let low = num::byte_at(input, at) as u32;
+    let high = num::byte_at(input, at + 1) as u32;
+    let mask = (1u32 << (width as u32)) - 1;
+    (((low + 256 * high) >> ((within % 8) as u32)) & mask) as u8
+}
