@@ -1,0 +1,7 @@
+pub mod Sizes
+pub mod Runs
+pub mod Checks
+pub mod Strided
+pub mod Wholes
+pub mod Accepted
+pub mod Refused

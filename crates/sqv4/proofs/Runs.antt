@@ -1,0 +1,47 @@
+-- A turn of the loop over codes: what is placed, and what is to come, are the whole run. Assumes nothing.
+use mathlib.Core.Path.{_≡_, refl, ap}
+use mathlib.Core.List.{List, [], _∷_}
+use Prim.Native.Nat.{ℕ, zero, suc, _+_, _-_, _≤_, _<_}
+use native.Mathlib.Numerals.{add-one}
+use native.Mathlib.Omega.{arith}
+use lib.ListN.{set}
+use lib.IntN.{ℤ}
+use Rattle.adpcm.specs.declared.Variant.{Variant}
+use Rattle.adpcm.specs.declared.State.{State}
+use Rattle.adpcm.specs.Codes.{bitsOf, decodeCode, codeAt}
+use Rattle.sqv4.specs.Decoding.{codesFrom, soundOf, sounds, ends, strided}
+
+-- the first of the codes to come
+next-code : (k : Variant) (payload : List ℕ) (i n : ℕ) → i < n → codesFrom k payload i (n - i) ≡ codeAt payload i (bitsOf k) ∷ codesFrom k payload (suc i) (n - suc i)
+unfolding codesFrom
+next-code k payload i n h = ap (λ (m : ℕ). codesFrom k payload i m) (one i n h)
+  where
+    one : (i n : ℕ) → i < n → n - i ≡ suc (n - suc i)
+    one i n h = omega arith
+
+none-left : (i n : ℕ) → n ≤ i → n - i ≡ 0
+none-left i n h = omega arith
+
+module _ (v : ℕ) (k : Variant) (volume : ℕ) (payload : List ℕ) where
+  -- what is to come from a state at sample i of n: samples at their places, and the last state
+  abbrev pub placed : List ℤ → ℕ → ℕ → State → ℕ → ℕ → List ℤ
+  placed out at step s i n = strided out at step (sounds v k volume s (codesFrom k payload i (n - i)))
+
+  abbrev pub last : State → ℕ → ℕ → State
+  last s i n = ends v k s (codesFrom k payload i (n - i))
+
+  pub turn : (out : List ℤ) (at step : ℕ) (s : State) (i n : ℕ) (x : ℤ) → i < n → x ≡ soundOf v (decodeCode v k s (codeAt payload i (bitsOf k)) .predictor) volume → placed (set out at x) (at + step) step (decodeCode v k s (codeAt payload i (bitsOf k))) (i + 1) n ≡ placed out at step s i n
+  unfolding sounds strided
+  turn out at step s i n x h e = rw (add-one i, next-code k payload i n h, e)
+
+  pub turn-last : (s : State) (i n : ℕ) → i < n → last (decodeCode v k s (codeAt payload i (bitsOf k))) (i + 1) n ≡ last s i n
+  unfolding ends
+  turn-last s i n h = rw (add-one i, next-code k payload i n h)
+
+  pub done : (out : List ℤ) (at step : ℕ) (s : State) (i n : ℕ) → n ≤ i → placed out at step s i n ≡ out
+  unfolding sounds codesFrom strided
+  done out at step s i n h = rw (none-left i n h)
+
+  pub done-last : (s : State) (i n : ℕ) → n ≤ i → last s i n ≡ s
+  unfolding ends codesFrom
+  done-last s i n h = rw (none-left i n h)
