@@ -5,7 +5,7 @@ use Prim.Native.Nat.{ℕ, _+_, _*_, _/_, _%_, min}
 use lib.Dec.{eqb}
 use lib.ListN.{getD}
 use lib.IntN.{ℤ, pos, negsuc, natAbs, _+ℤ_, _*ℤ_}
-use lib.Signed.{ltZ, quotZ}
+use lib.Signed.{ltZ, quotZ, shrZ}
 use Rattle.num.specs.Integers.{signed, clamp16}
 use Rattle.num.specs.Bytes.{field}
 use Rattle.adpcm.specs.declared.Variant.{Variant}

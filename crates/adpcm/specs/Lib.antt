@@ -1,2 +1,3 @@
 pub mod Ima
 pub mod Codes
+pub mod Marked

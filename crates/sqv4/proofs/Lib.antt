@@ -5,3 +5,4 @@ pub mod Strided
 pub mod Wholes
 pub mod Accepted
 pub mod Refused
+pub mod Parts

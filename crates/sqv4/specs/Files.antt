@@ -70,11 +70,17 @@ fragmentAt d h p = part d (16 + p * h .«frame_size») (h .«frame_size»)
 abbrev pub usedAt : Header → ℕ → ℕ
 usedAt h p = frameLength h (p / h .channels) * bitsOf (h .variant)
 
--- a fragment's fault: its step index, or a bit set past its last code
+-- a step index that no version 3 fragment has
+abbrev pub badStep : ℕ → List ℕ → Bool
+badStep version b = cond (eqb version 3) (ltb 88 (getD b 1 0)) false
+
+-- no bit is set past the last code
+abbrev pub cleanTail : ℕ → ℕ → List ℕ → Bool
+cleanTail version used b = ltb (le (drop (prefixOf version) b)) (2 ^ used)
+
+-- a fragment's fault: its step index first, then its padding
 unfoldable pub faultIn : ℕ → ℕ → List ℕ → Fault
-faultIn version used b =
-    cond (cond (eqb version 3) (ltb 88 (getD b 1 0)) false) (Step (getD b 1 0))
-    (cond (ltb (le (drop (prefixOf version) b)) (2 ^ used)) Fine Padding)
+faultIn version used b = cond (badStep version b) (Step (getD b 1 0)) (cond (cleanTail version used b) Fine Padding)
 
 abbrev pub unless : Fault → Inspected → Inspected
 unless Fine x = x

@@ -73,13 +73,13 @@ fn decode_codes(
 fn begin(version: u8, state: State, index: u8) -> State
     ensures { λ r. ⌜ r ≡ cond (eqb version 3) (startOf index) state ⌝ }
 {
-    if version == 3 {
-        return State {
-            predictor: 0,
-            index: num::least(index as usize, 88),
-        };
+    if version != 3 {
+        return state;
     }
-    state
+    State {
+        predictor: 0,
+        index: num::least(index as usize, 88),
+    }
 }
 
 // A fragment's first samples, and the state after them.
