@@ -14,6 +14,9 @@ use crate::Inspected;
 use adpcm::Variant;
 use adpcm::VariantByte;
 
+// The four bytes that a file begins with.
+pub const MAGIC: [u8; 4] = *b"SQV4";
+
 // The bytes of a stream: that part of the caller's RAM.
 pub fn stream_bytes(ram: &[u8], start: usize, end: usize) -> &[u8]
     ensures { λ r. ⌜ now r ≡ part (now (ram .entry)) start (end - start) ⌝ }
@@ -25,7 +28,7 @@ fn has_magic(file: &[u8]) -> bool
     requires { ⌜ 4 ≤ length (now file) ⌝ }
     ensures { λ r. ⌜ r ≡ magic (now (file .entry)) ⌝ }
 {
-    let name = b"SQV4";
+    let name = MAGIC;
     if file[0] != name[0] {
         return false;
     }

@@ -6,8 +6,8 @@ use Rattle.sqv4.proofs.check.has_magic.Tie as tie
 shared-slice-read-if1 : tie.Need-shared-slice-read-if1
 shared-slice-read-if1 c = search needs
 
-element-copy-out-if1 : tie.Need-element-copy-out-if1
-element-copy-out-if1 c = search needs
+array-read-if1 : tie.Need-array-read-if1
+array-read-if1 c = search needs
 
 returns : tie.Need-returns
 returns c = rw (ne-eqb _ 83 (c .if1 .taken))
@@ -15,43 +15,43 @@ returns c = rw (ne-eqb _ 83 (c .if1 .taken))
 shared-slice-read-if2 : tie.Need-shared-slice-read-if2
 shared-slice-read-if2 c = search needs
 
-element-copy-out-if2 : tie.Need-element-copy-out-if2
-element-copy-out-if2 c = search needs
+array-read-if2 : tie.Need-array-read-if2
+array-read-if2 c = search needs
 
 returns-2 : tie.Need-returns-2
-returns-2 c = rw (eq-eqb _ 83 (c .before .before .before .if1 .left), ne-eqb _ 81 (c .if2 .taken))
+returns-2 c = rw (eq-eqb _ 83 (c .before .before .if1 .left), ne-eqb _ 81 (c .if2 .taken))
 
 shared-slice-read-if3 : tie.Need-shared-slice-read-if3
 shared-slice-read-if3 c = search needs
 
-element-copy-out-if3 : tie.Need-element-copy-out-if3
-element-copy-out-if3 c = search needs
+array-read-if3 : tie.Need-array-read-if3
+array-read-if3 c = search needs
 
 returns-3 : tie.Need-returns-3
-returns-3 c = rw (eq-eqb _ 83 (c .before .before .before .before .before .before .if1 .left), eq-eqb _ 81 (c .before .before .before .if2 .left), ne-eqb _ 86 (c .if3 .taken))
+returns-3 c = rw (eq-eqb _ 83 (c .before .before .before .before .if1 .left), eq-eqb _ 81 (c .before .before .if2 .left), ne-eqb _ 86 (c .if3 .taken))
 
 shared-slice-read-result : tie.Need-shared-slice-read-result
 shared-slice-read-result c = search needs
 
-element-copy-out-result : tie.Need-element-copy-out-result
-element-copy-out-result c = search needs
+array-read-result : tie.Need-array-read-result
+array-read-result c = search needs
 
 returns-4 : tie.Need-returns-4
-returns-4 c = rw (eq-eqb _ 83 (c .before .before .before .before .before .before .before .before .if1 .left), eq-eqb _ 81 (c .before .before .before .before .before .if2 .left), eq-eqb _ 86 (c .before .before .if3 .left))
+returns-4 c = rw (eq-eqb _ 83 (c .before .before .before .before .before .if1 .left), eq-eqb _ 81 (c .before .before .before .if2 .left), eq-eqb _ 86 (c .before .if3 .left))
 
 pub has-magic-spec : {M : Type 1} → statement M
 has-magic-spec =
     tie.close
     (tie.spec
     shared-slice-read-if1
-    element-copy-out-if1
+    array-read-if1
     returns
     shared-slice-read-if2
-    element-copy-out-if2
+    array-read-if2
     returns-2
     shared-slice-read-if3
-    element-copy-out-if3
+    array-read-if3
     returns-3
     shared-slice-read-result
-    element-copy-out-result
+    array-read-result
     returns-4)
