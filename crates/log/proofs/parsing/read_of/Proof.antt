@@ -1,0 +1,20 @@
+use borrow.Author.Needs.{needs}
+use mathlib.Core.Path.{sym, ap}
+use Rattle.log.specs.Lines.{readOf}
+use Rattle.log.proofs.parsing.read_of.Statement.{statement}
+use Rattle.log.proofs.parsing.read_of.Tie as tie
+
+enum-known-one : tie.Need-enum-known-one
+enum-known-one c = search needs
+
+enum-told : tie.Need-enum-told
+enum-told c = search needs
+
+returns : tie.Need-returns
+returns c = sym (ap readOf (c .before .one .given .1))
+
+returns-2 : tie.Need-returns-2
+returns-2 c = search needs
+
+pub read-of-spec : {M : Type 1} → statement M
+read-of-spec = tie.close (tie.spec enum-known-one enum-told returns returns-2)

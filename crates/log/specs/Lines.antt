@@ -1,0 +1,80 @@
+-- Document 01's log lines, each without its closing byte 10.
+use mathlib.Core.Bool.{Bool, cond}
+use mathlib.Core.List.{List}
+use Prim.Native.Nat.{ℕ, _+_, _≤_}
+use lib.Dec.{eqb, leb}
+use lib.ListN.{length, getD}
+use Rattle.decimal.specs.declared.TakenNatural.{TakenNatural}
+use Rattle.decimal.specs.declared.TakenNatural.the-variants.{Natural, NoNatural}
+use Rattle.decimal.specs.Read.{naturalAt}
+use Rattle.log.specs.declared.Line.{Line}
+use Rattle.log.specs.declared.Line.the-variants.{Write, WriteRam, Read, Peek, Clock, Version, Malformed}
+use Rattle.log.specs.declared.One.{One}
+use Rattle.log.specs.declared.One.the-variants.{Number, NoNumber}
+use Rattle.log.specs.declared.Two.{Two}
+use Rattle.log.specs.declared.Two.the-variants.{Numbers, NoNumbers}
+
+-- ---- numerals
+-- a numeral that ends with the line, of a number of at most `most`
+abbrev pub oneOf : List ℕ → ℕ → TakenNatural → One
+oneOf text most (Natural n next) = cond (eqb next (length text)) (cond (leb n most) (Number n) NoNumber) NoNumber
+oneOf text most NoNatural = NoNumber
+
+unfoldable pub oneAt : List ℕ → ℕ → ℕ → One
+oneAt text at most = oneOf text most (naturalAt text at)
+
+abbrev pub Within : ℕ → One → Type 0
+Within most (Number n) = n ≤ most
+Within most NoNumber = Unit
+
+abbrev pub withByte : ℕ → One → Two
+withByte a (Number v) = Numbers a v
+withByte a NoNumber = NoNumbers
+
+-- an address, a comma and a byte
+abbrev pub twoOf : List ℕ → TakenNatural → Two
+twoOf text (Natural a next) = cond (leb a 4294967295) (cond (eqb (getD text next 0) 44) (withByte a (oneAt text (next + 1) 255)) NoNumbers) NoNumbers
+twoOf text NoNatural = NoNumbers
+
+unfoldable pub twoAt : List ℕ → ℕ → Two
+twoAt text at = twoOf text (naturalAt text at)
+
+-- ---- lines
+abbrev pub written : Two → Line
+written (Numbers a v) = Write a v
+written NoNumbers = Malformed
+
+abbrev pub writtenRam : Two → Line
+writtenRam (Numbers a v) = WriteRam a v
+writtenRam NoNumbers = Malformed
+
+abbrev pub readOf : One → Line
+readOf (Number a) = Read a
+readOf NoNumber = Malformed
+
+abbrev pub peekOf : One → Line
+peekOf (Number a) = Peek a
+peekOf NoNumber = Malformed
+
+-- 1 to 1,000 frames
+abbrev pub clockOf : One → Line
+clockOf (Number n) = cond (eqb n 0) Malformed (Clock n)
+clockOf NoNumber = Malformed
+
+abbrev pub versionOf : One → Line
+versionOf (Number v) = Version v
+versionOf NoNumber = Malformed
+
+-- W 87, M 77, R 82, P 80, C 67, V 86
+abbrev pub byKind : List ℕ → ℕ → Line
+byKind text k =
+    cond (eqb k 87) (written (twoAt text 2))
+    (cond (eqb k 77) (writtenRam (twoAt text 2))
+    (cond (eqb k 82) (readOf (oneAt text 2 4294967295))
+    (cond (eqb k 80) (peekOf (oneAt text 2 4294967295))
+    (cond (eqb k 67) (clockOf (oneAt text 2 1000))
+    (cond (eqb k 86) (versionOf (oneAt text 2 4))
+    Malformed)))))
+
+unfoldable pub lineOf : List ℕ → Line
+lineOf text = cond (eqb (getD text 1 0) 44) (byKind text (getD text 0 0)) Malformed
