@@ -117,15 +117,6 @@ unfolding render
 render-plus (pos n) h = refl
 render-plus (negsuc n) h = absurd (omega arith)
 
--- -1 - z, of a negative z
-pub below-zero : (z : ℤ) → 0 < down z → negsuc 0 -ℤ z ≡ pos (natAbs z - 1)
-below-zero (pos n) h = absurd (omega arith)
-below-zero (negsuc n) h = z-eq _ _ (omega (arith, z-sub (negsuc 0) (negsuc n)))
-
--- -1 - n
-pub minus-suc : (n : ℕ) → negsuc 0 -ℤ pos n ≡ negsuc n
-minus-suc n = z-eq _ _ (omega (arith, z-sub (negsuc 0) (pos n)))
-
 -- ---- an integer's numeral: n is its size
 pub put-minus : (l m k : List ℕ) (at e r n : ℕ) (z : ℤ) → 0 < down z → n ≡ natAbs z → Put l m at (45 ∷ []) e → Put m k e (decimal n) r → Put l k at (render z) r
 put-minus l m k at e r n z h s p q = rw (render-minus z h, ← s) (put-append l m k at e r (45 ∷ []) (decimal n) p q)
@@ -138,10 +129,3 @@ width-minus n w z h s p = rw (render-minus z h, ← s) (omega arith)
 
 pub width-plus : (n w : ℕ) (z : ℤ) → down z ≡ 0 → n ≡ natAbs z → w ≡ length (decimal n) → w ≡ length (render z)
 width-plus n w z h s p = rw (render-plus z h, ← s) p
-
--- ---- a test against 0
-pub is-below : (z : ℤ) → SFits w64 z → ltZ (toZ w64 (ofZ w64 z)) (pos 0) ≡ true → 0 < down z
-is-below z f e = omega (arith, ltZ-true z (pos 0) (rw (back w64 z f) at e))
-
-pub not-below : (z : ℤ) → SFits w64 z → ltZ (toZ w64 (ofZ w64 z)) (pos 0) ≡ false → down z ≡ 0
-not-below z f e = omega (arith, ltZ-false z (pos 0) (rw (back w64 z f) at e), one-zero z)

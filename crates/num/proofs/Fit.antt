@@ -120,14 +120,3 @@ module _ (z : ℤ) (h : natAbs z ≤ 8388608) (n : ℕ) (l : n ≤ 255) where
 
   pub scaled-fits : SFits w32 (z *ℤ pos n)
   scaled-fits = fit-abs w32 _ (8388608 * 255) scaled-abs (omega arith)
-
--- -1 - x, of a negative x: its size less one
-module _ (x : ℤ) (f : SFits w32 x) (h : 0 < down x) where
-  pub below-fits : SFits w32 (negsuc 0 -ℤ x)
-  below-fits = fit w32 _ (omega (arith, fit-up f, fit-down f, z-sub (negsuc 0) x, one-zero x, one-zero (negsuc 0 -ℤ x))) (omega (arith, fit-up f, fit-down f, z-sub (negsuc 0) x, one-zero x, one-zero (negsuc 0 -ℤ x)))
-
-  pub below-pos : down (negsuc 0 -ℤ x) ≡ 0
-  below-pos = omega (arith, z-sub (negsuc 0) x, one-zero x, one-zero (negsuc 0 -ℤ x))
-
-  pub below-abs : natAbs (negsuc 0 -ℤ x) + 1 ≡ natAbs x
-  below-abs = omega (arith, abs-is (negsuc 0 -ℤ x), abs-is x, z-sub (negsuc 0) x, one-zero x, one-zero (negsuc 0 -ℤ x))

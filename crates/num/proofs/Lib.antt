@@ -5,3 +5,4 @@ pub mod Bytes
 pub mod Bits
 pub mod Tables
 pub mod Lists
+pub mod Sizes

@@ -7,7 +7,7 @@ use mir.Facts.{toZ-pos}
 use mir.Syntax.{w64}
 use borrow.Author.Needs.{needs}
 use Rattle.num.proofs.Integers.{fit, back}
-use Rattle.decimal.proofs.Writing.{minus-suc}
+use Rattle.num.proofs.Sizes.{minus-suc}
 use Rattle.decimal.proofs.Reading.{negative-over, negative-fits}
 use Rattle.decimal.specs.Read.{negative}
 use Rattle.decimal.proofs.negated.Statement.{statement}

@@ -2,7 +2,8 @@ use native.Mathlib.Omega.{arith}
 use mir.Syntax.{w64}
 use borrow.Author.Needs.{needs}
 use Rattle.num.proofs.Integers.{back}
-use Rattle.decimal.proofs.Writing.{width-most, width-minus, width-plus, is-below, not-below}
+use Rattle.decimal.proofs.Writing.{width-most, width-minus, width-plus}
+use Rattle.num.proofs.Sizes.{is-below, not-below}
 use Rattle.decimal.proofs.number_width.Statement.{statement}
 use Rattle.decimal.proofs.number_width.Tie as tie
 
@@ -16,10 +17,10 @@ add-result : tie.Need-add-result
 add-result c = omega (arith, width-most _ (c .before .before .magnitude .ok))
 
 returns : tie.Need-returns
-returns c = width-minus _ _ _ (is-below _ (c .before .before .before .fits .value) (c .if1 .taken)) (rw (back w64 _ (c .before .before .before .fits .value)) at (c .before .before .magnitude .ensures)) (c .before .natural-width .ensures)
+returns c = width-minus _ _ _ (is-below w64 _ (c .before .before .before .fits .value) (c .if1 .taken)) (rw (back w64 _ (c .before .before .before .fits .value)) at (c .before .before .magnitude .ensures)) (c .before .natural-width .ensures)
 
 returns-2 : tie.Need-returns-2
-returns-2 c = width-plus _ _ _ (not-below _ (c .before .before .before .fits .value) (c .if1 .left)) (rw (back w64 _ (c .before .before .before .fits .value)) at (c .before .before .magnitude .ensures)) (c .before .natural-width .ensures)
+returns-2 c = width-plus _ _ _ (not-below w64 _ (c .before .before .before .fits .value) (c .if1 .left)) (rw (back w64 _ (c .before .before .before .fits .value)) at (c .before .before .magnitude .ensures)) (c .before .natural-width .ensures)
 
 pub number-width-spec : {M : Type 1} → statement M
 number-width-spec =

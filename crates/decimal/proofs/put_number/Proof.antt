@@ -1,7 +1,8 @@
 use mir.Syntax.{w64}
 use borrow.Author.Needs.{needs}
 use Rattle.num.proofs.Integers.{back}
-use Rattle.decimal.proofs.Writing.{put-minus, put-plus, is-below, not-below}
+use Rattle.decimal.proofs.Writing.{put-minus, put-plus}
+use Rattle.num.proofs.Sizes.{is-below, not-below}
 use Rattle.decimal.proofs.put_number.Statement.{statement}
 use Rattle.decimal.proofs.put_number.Tie as tie
 
@@ -20,7 +21,7 @@ same-length c = search needs
 returns : tie.Need-returns
 returns c =
     let start = c .before .before .before .before .before .before .before .before .before .before .before in
-    put-minus _ _ _ _ _ _ _ _ (is-below _ (start .fits .value) (c .before .before .before .before .before .before .before .before .before .if1 .taken))
+    put-minus _ _ _ _ _ _ _ _ (is-below w64 _ (start .fits .value) (c .before .before .before .before .before .before .before .before .before .if1 .taken))
     (rw (back w64 _ (start .fits .value)) at (c .before .before .before .magnitude .ensures))
     (c .before .before .before .before .before .before .before .put-byte .ensures)
     (c .before .before .put-natural .ensures)
@@ -37,7 +38,7 @@ same-length-2 c = search needs
 returns-2 : tie.Need-returns-2
 returns-2 c =
     let start = c .before .before .before .before .before .before .before in
-    put-plus _ _ _ _ _ _ (not-below _ (start .fits .value) (c .before .before .before .before .before .if1 .left))
+    put-plus _ _ _ _ _ _ (not-below w64 _ (start .fits .value) (c .before .before .before .before .before .if1 .left))
     (rw (back w64 _ (start .fits .value)) at (c .before .before .before .magnitude2 .ensures))
     (c .before .before .put-natural2 .ensures)
 

@@ -1,46 +1,39 @@
 use borrow.Author.Needs.{needs}
 use native.Mathlib.Omega.{arith}
-use mathlib.Core.Path.{_≡_}
-use Prim.Native.Nat.{ℕ, _≤_, _<_, _+_, _^_}
-use lib.IntN.{ℤ, pos, negsuc, natAbs, _-ℤ_}
+use Prim.Native.Nat.{_<_}
+use lib.IntN.{negsuc, _-ℤ_}
 use mir.Syntax.{w32}
-use mir.Val.{SFits, toZ, ofZ}
-use Rattle.num.proofs.Integers.{fit, fit-up, fit-down, z-sub, one-zero, back, abs-is, is-nonNeg, ltZ-true, ltZ-false}
 use Rattle.num.specs.Integers.{down}
-use Rattle.num.proofs.Fit.{below-fits, below-pos, below-abs}
+use Rattle.num.proofs.Integers.{back, abs-is, is-nonNeg}
+use Rattle.num.proofs.Sizes.{below-zero, is-below, not-below, size-most, size-some, less-fits, less-is}
 use Rattle.num.proofs.magnitude.Statement.{statement}
 use Rattle.num.proofs.magnitude.Tie as tie
 
-neg : (c : tie.Then1) → 0 < down (c .before .args .x)
-neg c = omega (arith, ltZ-true (c .before .args .x) (pos 0) (rw (back w32 _ (c .before .fits .x)) at (c .if1 .taken)))
+below : (c : tie.Then1) → 0 < down (c .before .args .x)
+below c = is-below w32 _ (c .before .fits .x) (c .if1 .taken)
 
 sub-result : tie.Need-sub-result
-sub-result c = rw (back w32 _ (c .before .fits .x)) (below-fits _ (c .before .fits .x) (neg c))
+sub-result c = rw (back w32 _ (c .before .fits .x), below-zero _ (below c)) (less-fits w32 _ (c .before .fits .x) (below c))
 
 cast-result : tie.Need-cast-result
 cast-result c =
-    rw (back w32 _ (c .before .fits .x), back w32 _ (below-fits _ (c .before .fits .x) (neg c))) (
-      is-nonNeg (negsuc 0 -ℤ c .before .args .x) (below-pos _ (c .before .fits .x) (neg c)),
-      omega (arith, below-abs _ (c .before .fits .x) (neg c), abs-is (c .before .args .x), fit-down (c .before .fits .x), fit-up (c .before .fits .x)),
-    )
+    let f = c .before .fits .x in
+    rw (less-is w32 _ f (below c)) (tt, omega (arith, size-most w32 _ f))
 
 add-result : tie.Need-add-result
 add-result c =
-    rw (back w32 _ (c .before .fits .x), back w32 _ (below-fits _ (c .before .fits .x) (neg c)))
-    (omega (arith, below-abs _ (c .before .fits .x) (neg c), abs-is (c .before .args .x), fit-down (c .before .fits .x), fit-up (c .before .fits .x)))
+    let f = c .before .fits .x in
+    rw (less-is w32 _ f (below c)) (omega (arith, size-most w32 _ f))
 
 cast-result-2 : tie.Need-cast-result-2
 cast-result-2 c =
-    let h = ltZ-false (c .before .args .x) (pos 0) (rw (back w32 _ (c .before .fits .x)) at (c .if1 .left)) in
-    rw (back w32 _ (c .before .fits .x)) (
-      is-nonNeg (c .before .args .x) (omega (arith, one-zero (c .before .args .x))),
-      omega (arith, abs-is (c .before .args .x), fit-down (c .before .fits .x), fit-up (c .before .fits .x)),
-    )
+    let f = c .before .fits .x in
+    rw (back w32 _ f) (is-nonNeg (c .before .args .x) (not-below w32 _ f (c .if1 .left)), omega (arith, size-most w32 _ f))
 
 returns : tie.Need-returns
 returns c =
-    rw (back w32 _ (c .before .fits .x), back w32 _ (below-fits _ (c .before .fits .x) (neg c)))
-    (below-abs _ (c .before .fits .x) (neg c))
+    let f = c .before .fits .x in
+    rw (less-is w32 _ f (below c)) (omega (arith, size-some w32 _ f (below c)))
 
 returns-2 : tie.Need-returns-2
 returns-2 c = search needs
