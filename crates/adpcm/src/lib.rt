@@ -24,7 +24,7 @@ pub struct State {
     pub index: usize,
 }
 
-const STEPS: [u32; 89] = [
+const STEPS: [u16; 89] = [
     7,
     8,
     9,
@@ -186,7 +186,7 @@ fn step_size(index: usize) -> u32
     ensures { λ r. ⌜ (r ≡ stepSize index) × (r < 2 ^ 15) ⌝ }
 {
     let at = num::least(index, 88);
-    STEPS[at]
+    STEPS[at] as u32
 }
 
 fn index_after(index: usize, adjust: i32) -> usize
