@@ -1,11 +1,11 @@
--- Parts of lists that are clipped to the list. Assumes nothing.
+-- Parts of lists that are clipped to the list; what holds at every index. Assumes nothing.
 use mathlib.Core.Path.{_≡_, refl, sym, ap, _∙_}
 use mathlib.Core.Bool.{Bool, true, false}
-use mathlib.Core.List.{List, []}
-use Prim.Native.Nat.{ℕ, _+_, _-_, _≤_, _<_, min}
+use mathlib.Core.List.{List, [], _∷_}
+use Prim.Native.Nat.{ℕ, zero, suc, _+_, _-_, _≤_, _<_, min}
 use native.Mathlib.Omega.{arith}
 use native.Mathlib.Decide.{decLe}
-use lib.ListN.{length, take, drop, length-take, length-drop, drop-of-length-le}
+use lib.ListN.{length, getD, set, take, drop, length-take, length-drop, drop-of-length-le}
 use lib.Seq.{take-all, take-nil}
 use Rattle.num.specs.Lists.{part}
 
@@ -70,3 +70,11 @@ clipped-part l a b end start e f =
       where
         past : (b ≤ a → ⊥) → end ≤ a → length l ≤ a
         past k h = omega arith
+
+-- what holds at every index, and of a new element, holds after its store
+pub each-set : {A : Type 0} (P : A → Type 0) (d x : A) → P x → (l : List A) → ((i : ℕ) → P (getD l i d)) → (k i : ℕ) → P (getD (set l k x) i d)
+each-set P d x h [] e k i = e i
+each-set P d x h (a ∷ l) e zero zero = h
+each-set P d x h (a ∷ l) e zero (suc i) = e (suc i)
+each-set P d x h (a ∷ l) e (suc k) zero = e zero
+each-set P d x h (a ∷ l) e (suc k) (suc i) = each-set P d x h l (λ j. e (suc j)) k i

@@ -1,0 +1,5 @@
+pub mod Offsets
+pub mod Ring
+pub mod Accepted
+pub mod Ranges
+pub mod Written

@@ -1,0 +1,5 @@
+pub mod Versions
+pub mod Control
+pub mod Pcm
+pub mod Queue
+pub mod Line

@@ -1,0 +1,80 @@
+-- The queue of a FIFO voice: a ring over the voice's own 2,048 entries, and the sample that is held.
+use mathlib.Core.Bool.{Bool, cond, _&&_}
+use mathlib.Core.List.{List, [], _∷_}
+use Prim.Native.Nat.{ℕ, zero, suc, _+_, _-_, _%_, _^_, _≤_, _<_}
+use lib.Dec.{eqb, leb, ltb}
+use lib.IntN.{ℤ, pos}
+use lib.ListN.{set, getD}
+use mir.Syntax.{w16}
+use mir.Val.{SFits}
+use Rattle.registers.specs.declared.Fifo.{Fifo}
+
+abbrev pub capacity : ℕ
+capacity = 2048
+
+abbrev pub defaultFifo : Fifo
+defaultFifo = record { head = 0; count = 0; held = pos 0; hold = 0; sub = 0; latch = 0 }
+
+-- ---- one field set, the others as they were
+
+abbrev pub setCount : Fifo → ℕ → Fifo
+setCount f x = record { head = f .head; count = x; held = f .held; hold = f .hold; sub = f .sub; latch = f .latch }
+
+abbrev pub setHold : Fifo → ℕ → Fifo
+setHold f x = record { head = f .head; count = f .count; held = f .held; hold = x; sub = f .sub; latch = f .latch }
+
+abbrev pub setSub : Fifo → ℕ → Fifo
+setSub f x = record { head = f .head; count = f .count; held = f .held; hold = f .hold; sub = x; latch = f .latch }
+
+abbrev pub setLatch : Fifo → ℕ → Fifo
+setLatch f x = record { head = f .head; count = f .count; held = f .held; hold = f .hold; sub = f .sub; latch = x }
+
+-- ---- push: the entry after the last takes the sample, unless the queue is full
+
+abbrev pub place : Fifo → ℕ
+place f = (f .head + f .count) % capacity
+
+unfoldable pub pushed : Fifo → Fifo
+pushed f = cond (ltb (f .count) capacity) (setCount f (f .count + 1)) f
+
+unfoldable pub pushedEntries : Fifo → List ℤ → ℤ → List ℤ
+pushedEntries f q sample = cond (ltb (f .count) capacity) (set q (place f) sample) q
+
+-- ---- pop: the first is taken and held, if there is one
+
+abbrev pub taken : Fifo → List ℤ → ℕ → Fifo
+taken f q frequency = record { head = (f .head + 1) % capacity; count = f .count - 1; held = getD q (f .head % capacity) (pos 0); hold = frequency; sub = f .sub; latch = f .latch }
+
+unfoldable pub popped : Fifo → List ℤ → ℕ → Fifo
+popped f q frequency = cond (eqb (f .count) 0) f (taken f q frequency)
+
+-- the first tick of a frame: a new sample once the held one has lasted
+unfoldable pub advanced : Fifo → List ℤ → ℕ → Fifo
+advanced f q frequency = cond (eqb (f .hold) 0) (popped f q frequency) (setHold f (f .hold - 1))
+
+-- a tick: four of them are a frame
+unfoldable pub ticked : Fifo → List ℤ → ℕ → Fifo
+ticked f q frequency = setSub (cond (eqb (f .sub) 0) (advanced f q frequency) f) ((f .sub + 1) % 4)
+
+-- ---- the queue as a list, oldest first: n entries of the ring from a place on
+unfoldable pub queued : List ℤ → ℕ → ℕ → List ℤ
+queued q head zero = []
+queued q head (suc n) = getD q (head % capacity) (pos 0) ∷ queued q (head + 1) n
+
+-- ---- accepted values
+unfoldable pub acceptsFifo : Fifo → Bool
+acceptsFifo f = leb (f .count) capacity && (ltb (f .head) capacity && (leb (f .sub) 3 && leb (f .hold) 65535))
+
+pub record AcceptedFifo (f : Fifo) : Type 0 where
+  pub full : f .count ≤ 2048
+  pub first : f .head < 2048
+  pub tick : f .sub ≤ 3
+  pub frames : f .hold ≤ 65535
+
+-- ---- the ranges of the other fields, and of the entries
+pub record FitFifo (f : Fifo) : Type 0 where
+  pub sample : SFits w16 (f .held)
+  pub byte : f .latch < 2 ^ 8
+
+pub record FitEntries (q : List ℤ) : Type 0 where
+  pub each : (i : ℕ) → SFits w16 (getD q i (pos 0))

@@ -1,0 +1,90 @@
+// The queue of a FIFO voice: a ring over the voice's own entries, and the sample that is held.
+ghost use mathlib.Core.Path.{_≡_};
+ghost use Rattle.registers.specs.Queue.{defaultFifo, pushed, pushedEntries, popped, advanced, ticked, acceptsFifo};
+use crate::Fifo;
+
+impl Fifo {
+    pub fn default() -> Fifo
+        ensures { λ r. ⌜ r ≡ defaultFifo ⌝ }
+    {
+        Fifo {
+            head: 0,
+            count: 0,
+            held: 0,
+            hold: 0,
+            sub: 0,
+            latch: 0,
+        }
+    }
+
+    // A sample is added at the end; a full queue drops it.
+    pub fn push(mut self, queue: &mut [i16], sample: i16) -> Fifo
+        ensures { λ r. ⌜ (r ≡ pushed self) × (now (queue .exit) ≡ pushedEntries self (now (queue .entry)) sample) ⌝ }
+    {
+        let count = self.count;
+        if count < 2048 {
+            let at = ((self.head & 2047) + count) & 2047;
+            if at < queue.len() {
+                queue[at] = sample;
+            }
+            self.count = count + 1;
+        }
+        self
+    }
+
+    // The oldest sample is taken and held, if there is one.
+    pub fn pop(mut self, queue: &[i16], frequency: u16) -> Fifo
+        ensures { λ r. ⌜ r ≡ popped self (now (queue .entry)) frequency ⌝ }
+    {
+        let count = self.count;
+        if count == 0 {
+            return self;
+        }
+        let head = self.head & 2047;
+        let sample = if head < queue.len() { queue[head] } else { 0 };
+        self.held = sample;
+        self.hold = frequency as u32;
+        self.count = count - 1;
+        self.head = (head + 1) & 2047;
+        self
+    }
+
+    // The first tick of a frame: a new sample once the held one has lasted.
+    pub fn advance(mut self, queue: &[i16], frequency: u16) -> Fifo
+        ensures { λ r. ⌜ r ≡ advanced self (now (queue .entry)) frequency ⌝ }
+    {
+        let hold = self.hold;
+        if hold == 0 {
+            return self.pop(queue, frequency);
+        }
+        self.hold = hold - 1;
+        self
+    }
+
+    pub fn tick(self, queue: &[i16], frequency: u16) -> Fifo
+        ensures { λ r. ⌜ r ≡ ticked self (now (queue .entry)) frequency ⌝ }
+    {
+        let sub = self.sub;
+        let mut f = self;
+        if sub == 0 {
+            f = self.advance(queue, frequency);
+        }
+        f.sub = ((sub & 3) + 1) & 3;
+        f
+    }
+
+    pub fn accepts(self) -> bool
+        ensures { λ r. ⌜ r ≡ acceptsFifo self ⌝ }
+    {
+        if 2048 < self.count {
+            return false;
+        }
+        if 2048 <= self.head {
+            return false;
+        }
+        if 3 < self.sub {
+            return false;
+        }
+        self.hold <= 65535
+    }
+}
