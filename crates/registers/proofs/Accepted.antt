@@ -10,11 +10,12 @@ use borrow.Author.Tests.{leb-true, ltb-true, eqb-true, eq-eqb, le-leb, lt-ltb, l
 use Rattle.num.specs.Bits.{withByte}
 use Rattle.num.proofs.Choice.{cond-by, both, together, never}
 use Rattle.num.proofs.Bits.{with-field-lt}
-use Rattle.registers.specs.Versions.{has3ws8pna, waveformNumber, withoutFifo, under}
+use Rattle.version.specs.Versions.{has3ws8pna}
+use Rattle.registers.specs.Waveforms.{waveformNumber, withoutFifo, under}
 use Rattle.registers.specs.Control.{defaultRegisters, setWaveform, writeRegisters, acceptsRegisters, AcceptedRegisters}
 use Rattle.registers.specs.Pcm.{defaultPcm, setSampleControl, setActive, writePcm, acceptsPcm, AcceptedPcm}
 use Rattle.registers.specs.Queue.{defaultFifo, setLatch, pushed, popped, advanced, ticked, acceptsFifo, AcceptedFifo}
-use Rattle.registers.specs.declared.SguVersion.{SguVersion}
+use Rattle.version.specs.declared.SguVersion.{SguVersion}
 use Rattle.registers.specs.declared.WaveformType.{WaveformType}
 use Rattle.registers.specs.declared.WaveformType.the-variants.{Wavetable, Pcm, Noise, DmaPcm, Sqv4, FifoDac}
 use Rattle.registers.specs.declared.Registers.{Registers}

@@ -14,7 +14,7 @@ use Rattle.num.specs.Bits.{byteOf, withByte}
 use Rattle.num.proofs.Choice.{cond-by}
 use Rattle.num.proofs.Bits.{with-field-lt}
 use Rattle.num.proofs.Lists.{each-set}
-use Rattle.registers.specs.Versions.{waveformFrom, waveformNumber, modulationFrom, modulationNumber}
+use Rattle.registers.specs.Waveforms.{waveformFrom, waveformNumber, modulationFrom, modulationNumber}
 use Rattle.registers.specs.Control.{setWaveform, writeRegisters, readRegisters, FitRegisters}
 use Rattle.registers.specs.Pcm.{writePcm, readPcm, FitPcm}
 use Rattle.registers.specs.Queue.{place, pushed, pushedEntries, popped, advanced, ticked, FitFifo, FitEntries}

@@ -4,8 +4,10 @@ use mathlib.Core.Bool.{Bool, true, cond, _&&_}
 use Prim.Native.Nat.{ℕ, _+_, _*_, _-_, _/_, _%_, _^_, _≤_, _<_}
 use lib.Dec.{eqb, leb}
 use Rattle.num.specs.Bits.{byteOf, withByte}
-use Rattle.registers.specs.Versions.{has3ws8pna, waveformNumber, modulationFrom, modulationNumber}
-use Rattle.registers.specs.declared.SguVersion.{SguVersion}
+use Rattle.tone.specs.Targets.{absoluteChannel}
+use Rattle.version.specs.Versions.{has3ws8pna}
+use Rattle.registers.specs.Waveforms.{waveformNumber, modulationFrom, modulationNumber}
+use Rattle.version.specs.declared.SguVersion.{SguVersion}
 use Rattle.registers.specs.declared.WaveformType.{WaveformType}
 use Rattle.registers.specs.declared.WaveformType.the-variants.{Wavetable}
 use Rattle.registers.specs.declared.ModulationType.{ModulationType}
@@ -40,6 +42,10 @@ setParam1 r x = record { frequency = r .frequency; «waveform_type» = r .«wave
 
 abbrev pub setParam2 : Registers → ℕ → Registers
 setParam2 r x = record { frequency = r .frequency; «waveform_type» = r .«waveform_type»; volume = r .volume; panpot = r .panpot; «modulation_type» = r .«modulation_type»; «modulation_target» = r .«modulation_target»; «modulation_targeting_mode» = r .«modulation_targeting_mode»; «modulation_param_1» = r .«modulation_param_1»; «modulation_param_2» = x }
+
+-- the channel that modulates channel ch
+abbrev pub targetChannel : Registers → ℕ → ℕ
+targetChannel r ch = absoluteChannel (ch % 8) (r .«modulation_targeting_mode») (r .«modulation_target»)
 
 -- ---- offsets
 

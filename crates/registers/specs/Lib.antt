@@ -1,4 +1,4 @@
-pub mod Versions
+pub mod Waveforms
 pub mod Control
 pub mod Pcm
 pub mod Queue

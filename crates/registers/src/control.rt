@@ -1,12 +1,13 @@
 // The control registers at their offsets.
 ghost use mathlib.Core.Path.{_≡_};
-ghost use Rattle.registers.specs.Control.{defaultRegisters, setWaveform, setModulation, writeRegisters, modulationByte, readRegisters, acceptsRegisters};
+ghost use Prim.Native.Nat.{_<_};
+ghost use Rattle.registers.specs.Control.{defaultRegisters, setWaveform, setModulation, targetChannel, writeRegisters, modulationByte, readRegisters, acceptsRegisters};
 use crate::ModulationType;
 use crate::Registers;
-use crate::SguVersion;
 use crate::WaveformType;
 use crate::bytes::byte;
 use crate::bytes::with_byte_16;
+use version::SguVersion;
 
 impl Registers {
     pub fn default() -> Registers
@@ -57,6 +58,17 @@ impl Registers {
             modulation_param_1: self.modulation_param_1,
             modulation_param_2: self.modulation_param_2,
         }
+    }
+
+    // The channel that modulates this one.
+    pub fn target_channel(self, ch: usize) -> usize
+        ensures { λ r. ⌜ (r ≡ targetChannel self ch) × (r < 8) ⌝ }
+    {
+        tone::convert_to_absolute_channel_address(
+            (ch & 7) as u8,
+            self.modulation_targeting_mode,
+            self.modulation_target,
+        )
     }
 
     // The number registers; the waveform, the phase reset and the queue are the channel's.

@@ -1,17 +1,9 @@
-// A voice's registers: the chip's versions, waveforms and modulations, what is written and read at an offset, the queue.
+// A voice's registers: waveforms and modulations, what is written and read at an offset, the queue.
 mod bytes;
 mod control;
 mod pcm;
 mod queue;
-mod versions;
-
-pub enum SguVersion {
-    V1,
-    V2,
-    V2_1,
-    V3,
-    V3_1,
-}
+mod waveforms;
 
 pub enum WaveformType {
     Wavetable,

@@ -3,9 +3,10 @@ use borrow.Author.Tests.{le-leb, lt-leb, eq-eqb, ne-eqb}
 use mathlib.Core.Path.{_≡_, sym, _∙_}
 use mathlib.Core.Bool.{true, false}
 use Prim.Native.Nat.{_≤_, _<_}
-use Rattle.registers.specs.Versions.{has3ws8pna, waveformNumber}
+use Rattle.version.specs.Versions.{has3ws8pna}
+use Rattle.registers.specs.Waveforms.{waveformNumber}
 use Rattle.registers.specs.Control.{acceptsRegisters}
-use Rattle.registers.specs.declared.SguVersion.{SguVersion}
+use Rattle.version.specs.declared.SguVersion.{SguVersion}
 use Rattle.registers.specs.declared.Registers.{Registers}
 use Rattle.registers.proofs.Registers.accepts.Statement.{statement}
 use Rattle.registers.proofs.Registers.accepts.Tie as tie

@@ -1,6 +1,6 @@
 use borrow.Author.Needs.{needs}
-use Rattle.registers.proofs.SguVersion.wavetable_mask.Statement.{statement}
-use Rattle.registers.proofs.SguVersion.wavetable_mask.Tie as tie
+use Rattle.version.proofs.SguVersion.wavetable_mask.Statement.{statement}
+use Rattle.version.proofs.SguVersion.wavetable_mask.Tie as tie
 
 enum-told : tie.Need-enum-told
 enum-told c = search needs

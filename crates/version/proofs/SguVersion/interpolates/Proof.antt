@@ -1,8 +1,8 @@
 use borrow.Author.Needs.{needs}
 use Prim.Native.Nat.{_/_}
 use lib.Bits.{and-mask}
-use Rattle.registers.proofs.SguVersion.interpolates.Statement.{statement}
-use Rattle.registers.proofs.SguVersion.interpolates.Tie as tie
+use Rattle.version.proofs.SguVersion.interpolates.Statement.{statement}
+use Rattle.version.proofs.SguVersion.interpolates.Tie as tie
 
 enum-told : tie.Need-enum-told
 enum-told c = search needs

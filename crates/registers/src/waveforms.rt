@@ -1,98 +1,9 @@
-// What the chip's versions have, and the numbers of versions, waveforms and modulations.
+// Waveforms and modulations, and their numbers.
 ghost use mathlib.Core.Path.{_≡_};
-ghost use Rattle.registers.specs.Versions.{versionNumber, coreCount, has3ws8pna, has34si22, hasSampleControl, interpolates as interpolatesAt, wavetableMaskOf, waveformFrom, waveformNumber, isSqv4, under as waveformUnder, modulationFrom, modulationNumber, hasTarget};
+ghost use Rattle.registers.specs.Waveforms.{waveformFrom, waveformNumber, isSqv4, under as waveformUnder, modulationFrom, modulationNumber, hasTarget, isPhase};
 use crate::ModulationType;
-use crate::SguVersion;
 use crate::WaveformType;
-
-impl SguVersion {
-    // The number that session texts give a version.
-    pub fn number(self) -> u8
-        ensures { λ r. ⌜ r ≡ versionNumber self ⌝ }
-    {
-        match self {
-            SguVersion::V1 => 0,
-            SguVersion::V2 => 1,
-            SguVersion::V2_1 => 2,
-            SguVersion::V3 => 3,
-            SguVersion::V3_1 => 4,
-        }
-    }
-
-    pub fn core_count(self) -> usize
-        ensures { λ r. ⌜ r ≡ coreCount self ⌝ }
-    {
-        match self {
-            SguVersion::V1 => 1,
-            SguVersion::V2 => 2,
-            SguVersion::V2_1 => 2,
-            SguVersion::V3 => 2,
-            SguVersion::V3_1 => 2,
-        }
-    }
-
-    pub fn has_3ws8pna(self) -> bool
-        ensures { λ r. ⌜ r ≡ has3ws8pna self ⌝ }
-    {
-        match self {
-            SguVersion::V1 => false,
-            SguVersion::V2 => false,
-            SguVersion::V2_1 => true,
-            SguVersion::V3 => true,
-            SguVersion::V3_1 => true,
-        }
-    }
-
-    pub fn has_34si22(self) -> bool
-        ensures { λ r. ⌜ r ≡ has34si22 self ⌝ }
-    {
-        match self {
-            SguVersion::V1 => false,
-            SguVersion::V2 => false,
-            SguVersion::V2_1 => false,
-            SguVersion::V3 => true,
-            SguVersion::V3_1 => true,
-        }
-    }
-
-    pub fn has_sample_control(self) -> bool
-        ensures { λ r. ⌜ r ≡ hasSampleControl self ⌝ }
-    {
-        match self {
-            SguVersion::V1 => false,
-            SguVersion::V2 => false,
-            SguVersion::V2_1 => false,
-            SguVersion::V3 => false,
-            SguVersion::V3_1 => true,
-        }
-    }
-
-    // Whether a voice with this sample control interpolates.
-    pub fn interpolates(self, sample_control: u8) -> bool
-        ensures { λ r. ⌜ r ≡ interpolatesAt self «sample_control» ⌝ }
-    {
-        match self {
-            SguVersion::V1 => false,
-            SguVersion::V2 => false,
-            SguVersion::V2_1 => true,
-            SguVersion::V3 => true,
-            SguVersion::V3_1 => (sample_control >> 2) & 1 == 0,
-        }
-    }
-
-    // The samples of its wavetable, less one.
-    pub fn wavetable_mask(self, sample_control: u8) -> u8
-        ensures { λ r. ⌜ r ≡ wavetableMaskOf self «sample_control» ⌝ }
-    {
-        match self {
-            SguVersion::V1 => 255,
-            SguVersion::V2 => 255,
-            SguVersion::V2_1 => 255,
-            SguVersion::V3 => 255,
-            SguVersion::V3_1 => tone::wavetable_mask(sample_control),
-        }
-    }
-}
+use version::SguVersion;
 
 impl WaveformType {
     pub fn from(value: u8) -> WaveformType
@@ -177,6 +88,20 @@ impl ModulationType {
             ModulationType::Ring => true,
             ModulationType::HardSync => true,
             ModulationType::Window => true,
+            ModulationType::SlewRate => false,
+            ModulationType::SlewStep => false,
+        }
+    }
+
+    pub fn is_phase(self) -> bool
+        ensures { λ r. ⌜ r ≡ isPhase self ⌝ }
+    {
+        match self {
+            ModulationType::None => false,
+            ModulationType::Phase => true,
+            ModulationType::Ring => false,
+            ModulationType::HardSync => false,
+            ModulationType::Window => false,
             ModulationType::SlewRate => false,
             ModulationType::SlewStep => false,
         }

@@ -1,0 +1,3 @@
+pub mod Versions
+pub mod Spaces
+pub mod Names
