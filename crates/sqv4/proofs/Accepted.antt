@@ -42,15 +42,15 @@ Takes P NonZeroPadding = Unit
 pub record Took (P : Header → Type 0) (x : Inspected) : Type 0 where
   pub it : Takes P x
 
--- what a header says follows from a file's bytes
-pub record Says (d : List ℕ) (h : Header) : Type 0 where
+-- what a header says follows from a file's bytes; the number of samples is of 32 bits where they are bytes
+pub record Told (d : List ℕ) (h : Header) : Type 0 where
   pub samples : h .«frame_samples» ≡ frameSamples (h .version)
   pub count : h .«frame_count» ≡ frameCount (h .«frame_samples») (h .«samples_per_channel»)
   pub size : h .«frame_size» ≡ frameSize (h .version) (h .variant)
   pub long : length d ≡ lengthOf h
   pub one-or-two : (1 ≤ h .channels) × (h .channels ≤ 2)
   pub known : (1 ≤ h .version) × (h .version ≤ 3)
-  pub few : h .«samples_per_channel» < 2 ^ 32
+  pub few : ((i : ℕ) → getD d i 0 < 256) → h .«samples_per_channel» < 2 ^ 32
 
 faults-keep : (P : Header → Type 0) (d : List ℕ) (h : Header) → P h → (p n : ℕ) → Took P (faultsFrom d h p n)
 unfolding faultsFrom
@@ -78,41 +78,56 @@ known-version n e = go (ltb 0 n) refl (ltb n 4) refl e
     go true p false q r = never (sym r)
     go false p b q r = never (sym r)
 
-module _ (d : List ℕ) (bytes : (i : ℕ) → getD d i 0 < 256) (long : 16 ≤ length d) where
-  four-bytes : (a : ℕ) → a + 4 ≤ length d → le (part d a 4) < 2 ^ 32
-  four-bytes a h = omega (arith, le-four d a h, bytes a, bytes (a + 1), bytes (a + 2), bytes (a + 3))
+module _ (d : List ℕ) (long : 16 ≤ length d) where
+  four-bytes : ((i : ℕ) → getD d i 0 < 256) → (a : ℕ) → a + 4 ≤ length d → le (part d a 4) < 2 ^ 32
+  four-bytes bytes a h = omega (arith, le-four d a h, bytes a, bytes (a + 1), bytes (a + 2), bytes (a + 3))
 
-  named-says : (k : Variant) → (1 ≤ getD d 4 0) × (getD d 4 0 ≤ 3) → Took (Says d) (named d k)
+  named-told : (k : Variant) → (1 ≤ getD d 4 0) × (getD d 4 0 ≤ 3) → Took (Told d) (named d k)
   unfolding named
-  named-says k v =
-      cond-by (Took (Says d)) (cond (eqb (getD d 6 0) 1) true (eqb (getD d 6 0) 2)) _ _
-      (λ a. cond-by (Took (Says d)) (eqb (getD d 7 0) 0) _ _
-      (λ b. cond-by (Took (Says d)) (eqb (le (part d 8 4)) 0) _ _ (λ e. record { it = tt })
-      (λ e. cond-by (Took (Says d)) (eqb (length d) (lengthOf (headerOf d k))) _ _
-      (λ l. faults-keep (Says d) d (headerOf d k) (record { samples = refl; count = refl; size = refl; long = eqb-true _ _ l; one-or-two = one-or-two (getD d 6 0) a; known = v; few = four-bytes 12 (omega arith) }) 0 _)
+  named-told k v =
+      cond-by (Took (Told d)) (cond (eqb (getD d 6 0) 1) true (eqb (getD d 6 0) 2)) _ _
+      (λ a. cond-by (Took (Told d)) (eqb (getD d 7 0) 0) _ _
+      (λ b. cond-by (Took (Told d)) (eqb (le (part d 8 4)) 0) _ _ (λ e. record { it = tt })
+      (λ e. cond-by (Took (Told d)) (eqb (length d) (lengthOf (headerOf d k))) _ _
+      (λ l. faults-keep (Told d) d (headerOf d k) (record { samples = refl; count = refl; size = refl; long = eqb-true _ _ l; one-or-two = one-or-two (getD d 6 0) a; known = v; few = λ bytes. four-bytes bytes 12 (omega arith) }) 0 _)
       (λ l. record { it = tt })))
       (λ b. record { it = tt }))
       (λ a. record { it = tt })
 
-  by-variant : (b : VariantByte) → (1 ≤ getD d 4 0) × (getD d 4 0 ≤ 3) → Took (Says d) (byVariant d (getD d 5 0) b)
-  by-variant (Known k) v = named-says k v
+  by-variant : (b : VariantByte) → (1 ≤ getD d 4 0) × (getD d 4 0 ≤ 3) → Took (Told d) (byVariant d (getD d 5 0) b)
+  by-variant (Known k) v = named-told k v
   by-variant Unknown v = record { it = tt }
 
 long-enough : (d : List ℕ) → ltb (length d) 16 ≡ false → 16 ≤ length d
 long-enough d e = ltb-false (length d) 16 e
 
-pub inspected-says : (d : List ℕ) → ((i : ℕ) → getD d i 0 < 256) → Took (Says d) (inspected d)
+inspected-told : (d : List ℕ) → Took (Told d) (inspected d)
 unfolding inspected
-inspected-says d bytes =
-    cond-by (Took (Says d)) (ltb (length d) 16) _ _ (λ a. record { it = tt })
-    (λ a. cond-by (Took (Says d)) (magic d) _ _
-    (λ b. cond-by (Took (Says d)) (cond (ltb 0 (getD d 4 0)) (ltb (getD d 4 0) 4) false) _ _
-    (λ e. by-variant d bytes (long-enough d a) (variantOf (getD d 5 0)) (known-version (getD d 4 0) e)) (λ e. record { it = tt }))
+inspected-told d =
+    cond-by (Took (Told d)) (ltb (length d) 16) _ _ (λ a. record { it = tt })
+    (λ a. cond-by (Took (Told d)) (magic d) _ _
+    (λ b. cond-by (Took (Told d)) (cond (ltb 0 (getD d 4 0)) (ltb (getD d 4 0) 4) false) _ _
+    (λ e. by-variant d (long-enough d a) (variantOf (getD d 5 0)) (known-version (getD d 4 0) e)) (λ e. record { it = tt }))
     (λ b. record { it = tt }))
 
 -- of an accepted file
+pub accepted-told : (d : List ℕ) (h : Header) → inspected d ≡ Accepted h → Told d h
+accepted-told d h e = subst (λ (x : Inspected). Took (Told d) x) e (inspected-told d) .it
+
+-- and of one that is bytes
+pub record Says (d : List ℕ) (h : Header) : Type 0 where
+  pub samples : h .«frame_samples» ≡ frameSamples (h .version)
+  pub count : h .«frame_count» ≡ frameCount (h .«frame_samples») (h .«samples_per_channel»)
+  pub size : h .«frame_size» ≡ frameSize (h .version) (h .variant)
+  pub long : length d ≡ lengthOf h
+  pub one-or-two : (1 ≤ h .channels) × (h .channels ≤ 2)
+  pub known : (1 ≤ h .version) × (h .version ≤ 3)
+  pub few : h .«samples_per_channel» < 2 ^ 32
+
 pub accepted-says : (d : List ℕ) (h : Header) → ((i : ℕ) → getD d i 0 < 256) → inspected d ≡ Accepted h → Says d h
-accepted-says d h bytes e = subst (λ (x : Inspected). Took (Says d) x) e (inspected-says d bytes) .it
+accepted-says d h bytes e =
+    let t = accepted-told d h e in
+    record { samples = t .samples; count = t .count; size = t .size; long = t .long; one-or-two = t .one-or-two; known = t .known; few = t .few bytes }
 
 samples-range : (v : ℕ) → (63 ≤ frameSamples v) × (frameSamples v ≤ 64)
 samples-range v = cond-by (λ (n : ℕ). (63 ≤ n) × (n ≤ 64)) (eqb v 3) 63 64 (λ e. omega arith) (λ e. omega arith)

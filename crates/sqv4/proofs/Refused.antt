@@ -21,20 +21,21 @@ use Rattle.sqv4.specs.Whole.{samplesFrom, stateFrom, stateAfter, piece, 
 use Rattle.sqv4.proofs.Strided.{strided-sets, strided-two}
 use Rattle.sqv4.proofs.Wholes.{length-from}
 
+-- no refusal has the tag of an accepted file
+pub zero-not : OneOf (1 ∷ 2 ∷ 3 ∷ 4 ∷ 5 ∷ 6 ∷ 7 ∷ 8 ∷ 9 ∷ 10 ∷ []) 0 → ⊥
+zero-not (inl e) = omega arith
+zero-not (inr (inl e)) = omega arith
+zero-not (inr (inr (inl e))) = omega arith
+zero-not (inr (inr (inr (inl e)))) = omega arith
+zero-not (inr (inr (inr (inr (inl e))))) = omega arith
+zero-not (inr (inr (inr (inr (inr (inl e)))))) = omega arith
+zero-not (inr (inr (inr (inr (inr (inr (inl e))))))) = omega arith
+zero-not (inr (inr (inr (inr (inr (inr (inr (inl e)))))))) = omega arith
+zero-not (inr (inr (inr (inr (inr (inr (inr (inr (inl e))))))))) = omega arith
+zero-not (inr (inr (inr (inr (inr (inr (inr (inr (inr e))))))))) = omega arith
+
 pub refused : (out : List ℤ) (d : List ℕ) (x : Inspected) → OneOf (1 ∷ 2 ∷ 3 ∷ 4 ∷ 5 ∷ 6 ∷ 7 ∷ 8 ∷ 9 ∷ 10 ∷ []) (tagOf the-type x) → out ≡ decodedInto out d x
 refused out d (Accepted h) t = absurd (zero-not t)
-  where
-    zero-not : OneOf (1 ∷ 2 ∷ 3 ∷ 4 ∷ 5 ∷ 6 ∷ 7 ∷ 8 ∷ 9 ∷ 10 ∷ []) 0 → ⊥
-    zero-not (inl e) = omega arith
-    zero-not (inr (inl e)) = omega arith
-    zero-not (inr (inr (inl e))) = omega arith
-    zero-not (inr (inr (inr (inl e)))) = omega arith
-    zero-not (inr (inr (inr (inr (inl e))))) = omega arith
-    zero-not (inr (inr (inr (inr (inr (inl e)))))) = omega arith
-    zero-not (inr (inr (inr (inr (inr (inr (inl e))))))) = omega arith
-    zero-not (inr (inr (inr (inr (inr (inr (inr (inl e)))))))) = omega arith
-    zero-not (inr (inr (inr (inr (inr (inr (inr (inr (inl e))))))))) = omega arith
-    zero-not (inr (inr (inr (inr (inr (inr (inr (inr (inr e))))))))) = omega arith
 refused out d TruncatedHeader t = refl
 refused out d InvalidMagic t = refl
 refused out d (UnsupportedVersion x) t = refl

@@ -1,0 +1,17 @@
+pub mod Fragments
+pub mod Clearing
+pub mod Onward
+pub mod Counts
+pub mod Accepts
+pub mod Openings
+pub mod Heard
+pub mod Founds
+pub mod Pieces
+pub mod Placed
+pub mod Holding
+pub mod Same
+pub mod Indexes
+pub mod Keeps
+pub mod Writes
+pub mod Reaches
+pub mod Serving
