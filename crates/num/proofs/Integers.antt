@@ -154,6 +154,9 @@ up-minus n = up-neg (pos n)
 pub down-minus : (n : ℕ) → down (negℤ (pos n)) ≡ n
 down-minus n = down-neg (pos n)
 
+pub zero-minus : (n : ℕ) → pos 0 -ℤ pos n ≡ negℤ (pos n)
+zero-minus n = z-eq (pos 0 -ℤ pos n) (negℤ (pos n)) (omega (arith, z-sub (pos 0) (pos n), up-minus n, down-minus n))
+
 -- the quotient toward zero, by a positive number
 pub up-quot : (z : ℤ) (k : ℕ) → up (quotZ z (pos k)) ≡ up z / k
 up-quot (pos n) k = refl

@@ -6,3 +6,4 @@ pub mod Ram
 pub mod Channels
 pub mod Sides
 pub mod Ranges
+pub mod Scaled

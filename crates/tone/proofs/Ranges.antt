@@ -11,12 +11,12 @@ use mir.Val.{SFits}
 use Rattle.num.specs.Integers.{clamp}
 use Rattle.num.proofs.Choice.{cond-by}
 use Rattle.num.proofs.Integers.{fit, z-sub, one-zero}
-use Rattle.num.proofs.Fit.{up-clamp}
+use Rattle.num.proofs.Fit.{up-clamp, fit-abs, abs-fit, mul-small, abs-quot}
 use Rattle.tone.specs.Taps.{blend}
 use Rattle.tone.specs.Shape.{rung, ring, slewRate, slewStep, slew, centred}
 use Rattle.tone.specs.Noise.{plainBit, customTaps, tapBit, shifted, nextLfsr}
 use Rattle.tone.specs.Pcm.{loops, pcmPhaseAfter}
-use Rattle.tone.specs.Mix.{lastSample}
+use Rattle.tone.specs.Mix.{lastSample, volumeOf}
 
 pub blend-range : (a b f : ℕ) → a ≤ 255 → b ≤ 255 → f ≤ 255 → blend a b f ≤ 65280
 blend-range a b f h k l = omega (arith, N.mul-le-mul-right (256 - f) h, N.mul-le-mul-right f k)
@@ -57,6 +57,10 @@ centred-fits q false h = about (q / 256 * 256) (omega arith)
 
 pub last-fits : (z : ℤ) → SFits w16 z → SFits w16 (lastSample z)
 last-fits z f = record { sfits = N.lt-of-le-of-lt (mag-shr z (2 ^ 8)) (f .sfits) }
+
+pub volume-fits : (z : ℤ) (v : ℕ) → SFits w16 z → v ≤ 255 → SFits w16 (volumeOf z v)
+unfolding volumeOf
+volume-fits z v f h = fit-abs w16 _ 8160 (rw abs-quot (omega (arith, mul-small z (pos v) 32768 255 (abs-fit w16 f) h))) (omega arith)
 
 shifted-range : (l b : ℕ) → l < 2 ^ 32 → b < 2 → shifted l b < 2 ^ 32
 shifted-range l b h k = omega arith

@@ -26,7 +26,7 @@ unfolding pan
 pan-small s w h =
     (rw (up-quot (s *ℤ pos w) 15, up-mul s w) (weighed (up s) w h), rw (down-quot (s *ℤ pos w) 15, down-mul s w) (weighed (down s) w h))
 
--- one tick, none, and one more
+-- one tick, none, some and some more
 pub tick-one : (s : ℤ) (w : ℕ) → SFits w16 s → w ≤ 15 → Ticks 1 (side s w)
 tick-one s w f h =
     let g = gain-small s f in
@@ -36,11 +36,17 @@ tick-one s w f h =
 pub ticks-none : Ticks 0 (pos 0)
 ticks-none = record { high = omega arith; low = omega arith }
 
-pub ticks-more : (n : ℕ) (z s : ℤ) → Ticks n z → Ticks 1 s → Ticks (n + 1) (z +ℤ s)
-ticks-more n z s t u =
-    let e = z-add z s in
-    let o = one-zero (z +ℤ s) in
+pub ticks-sum : (m n : ℕ) (y z : ℤ) → Ticks m y → Ticks n z → Ticks (m + n) (y +ℤ z)
+ticks-sum m n y z t u =
+    let e = z-add y z in
+    let o = one-zero (y +ℤ z) in
     record { high = omega (arith, t .high, u .high); low = omega (arith, t .low, u .low) }
+
+pub ticks-more : (n : ℕ) (z s : ℤ) → Ticks n z → Ticks 1 s → Ticks (n + 1) (z +ℤ s)
+ticks-more n z s t u = ticks-sum n 1 z s t u
+
+pub ticks-wider : (m n : ℕ) (z : ℤ) → m ≤ n → Ticks m z → Ticks n z
+ticks-wider m n z h t = record { high = omega (arith, t .high); low = omega (arith, t .low) }
 
 pub ticks-fit : (n : ℕ) (z : ℤ) → n ≤ 2 ^ 18 → Ticks n z → SFits w32 z
 ticks-fit n z h t = fit w32 z (omega (arith, t .high)) (omega (arith, t .low))

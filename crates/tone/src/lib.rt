@@ -8,12 +8,14 @@ mod taps;
 mod targets;
 
 pub use mix::apply_master_gain;
+pub use mix::gained;
 pub use mix::high_nibble;
 pub use mix::last_sample;
 pub use mix::low_nibble;
 pub use mix::pan;
 pub use mix::saturate_output;
 pub use mix::saturating_add;
+pub use mix::stream_gained;
 pub use mix::stream_last_sample;
 pub use mix::stream_volume_of;
 pub use mix::volume_of;

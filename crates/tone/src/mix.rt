@@ -1,7 +1,8 @@
 // From a centred value to the sides of a frame. Every division goes toward zero.
 ghost use mathlib.Core.Path.{_≡_};
-ghost use Prim.Native.Nat.{_≤_};
-ghost use lib.IntN.{natAbs};
+ghost use Prim.Native.Nat.{_≤_, _<_};
+ghost use lib.IntN.{pos, natAbs, _*ℤ_};
+ghost use lib.Signed.{quotZ};
 ghost use Rattle.num.specs.Integers.{up, down};
 ghost use Rattle.num.specs.Integers.{clamp16 as clamped16};
 ghost use Rattle.tone.specs.Mix.{streamValue, lastSample, streamLastSample, volumeOf, streamVolumeOf, masterGain, highNibble, lowNibble, saturatingAdd, wrappingAdd};
@@ -18,6 +19,15 @@ fn stream_value(q8: i32) -> i32
         return 8388607;
     }
     q8
+}
+
+// A factor, and a division of the magnitude.
+fn scaled(z: i32, factor: u8, divisor: u32) -> i32
+    requires { ⌜ (natAbs z ≤ 8388608) × (0 < divisor) ⌝ }
+    ensures { λ r. ⌜ r ≡ quotZ (z *ℤ pos factor) (pos divisor) ⌝ }
+{
+    let n = (num::magnitude(z) * (factor as u32) / divisor) as i32;
+    if z < 0 { -n } else { n }
 }
 
 // The whole samples of a value, rounded down.
@@ -46,6 +56,19 @@ pub fn stream_volume_of(q8: i32, volume: u8) -> i16
     (stream_value(q8) * (volume as i32) / 65280) as i16
 }
 
+// The sample after volume and master gain at once.
+pub fn gained(q8: i16, volume: u8) -> i16
+    ensures { λ r. ⌜ r ≡ masterGain (volumeOf q8 volume) ⌝ }
+{
+    scaled(q8 as i32, volume, 8192) as i16
+}
+
+pub fn stream_gained(q8: i32, volume: u8) -> i16
+    ensures { λ r. ⌜ r ≡ masterGain (streamVolumeOf q8 volume) ⌝ }
+{
+    scaled(stream_value(q8), volume, 522240) as i16
+}
+
 pub fn apply_master_gain(sample: i16) -> i16
     ensures { λ r. ⌜ r ≡ masterGain sample ⌝ }
     ensures { λ r. ⌜ (up r ≤ 4095) × (down r ≤ 4096) ⌝ }
@@ -72,7 +95,7 @@ pub fn pan(sample: i16, weight: u8) -> i32
     ensures { λ r. ⌜ r ≡ panOf sample weight ⌝ }
     ensures { λ r. ⌜ (weight ≤ 15 → (up r ≤ up sample) × (down r ≤ down sample)) ⌝ }
 {
-    (sample as i32) * (weight as i32) / 15
+    scaled(sample as i32, weight, 15)
 }
 
 pub fn saturate_output(sample: i32) -> i16

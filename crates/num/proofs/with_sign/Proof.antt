@@ -1,12 +1,12 @@
 use borrow.Author.Needs.{needs}
-use mathlib.Core.Path.{_≡_, refl}
+use mathlib.Core.Path.{refl}
 use native.Mathlib.Omega.{arith}
-use Prim.Native.Nat.{ℕ, _<_, _^_}
-use lib.IntN.{ℤ, pos, negℤ, natAbs, _-ℤ_}
+use Prim.Native.Nat.{_<_, _^_}
+use lib.IntN.{pos, _-ℤ_}
 use mir.Syntax.{w32}
 use mir.Val.{SFits}
 use mir.Facts.{toZ-pos}
-use Rattle.num.proofs.Integers.{back, fit, z-eq, z-sub, one-zero, up-minus, down-minus}
+use Rattle.num.proofs.Integers.{back, fit, z-sub, one-zero, zero-minus}
 use Rattle.num.proofs.Fit.{abs-neg}
 use Rattle.num.proofs.with_sign.Statement.{statement}
 use Rattle.num.proofs.with_sign.Tie as tie
@@ -22,9 +22,6 @@ difference c =
     fit w32 _ (omega (arith, small c, z-sub (pos 0) (pos (c .args .size)), one-zero (pos 0 -ℤ pos (c .args .size))))
     (omega (arith, small c, z-sub (pos 0) (pos (c .args .size)), one-zero (pos 0 -ℤ pos (c .args .size))))
 
-minus : (n : ℕ) → pos 0 -ℤ pos n ≡ negℤ (pos n)
-minus n = z-eq (pos 0 -ℤ pos n) (negℤ (pos n)) (omega (arith, z-sub (pos 0) (pos n), up-minus n, down-minus n))
-
 sub-result : tie.Need-sub-result
 sub-result c = rw (toZ-pos w32 (small (c .before))) (difference (c .before))
 
@@ -32,7 +29,7 @@ returns : tie.Need-returns
 returns c =
     let s = c .before in
     let n = s .args .size in
-    rw (toZ-pos w32 (small s), back w32 _ (difference s), minus n, c .if1 .taken)
+    rw (toZ-pos w32 (small s), back w32 _ (difference s), zero-minus n, c .if1 .taken)
     (refl, omega (arith, abs-neg n))
 
 returns-2 : tie.Need-returns-2

@@ -1,0 +1,47 @@
+use borrow.Author.Needs.{needs}
+use mathlib.Core.Path.{_≡_, refl, sym, ap, _∙_}
+use Prim.Native.Nat.{ℕ, _-_, _≤_}
+use native.Mathlib.Omega.{arith}
+use Rattle.ticks.specs.Again.{again}
+use Rattle.ticks.specs.Queues.{queueTick, queueTicks}
+use Rattle.ticks.proofs.Again.{again-more}
+use Rattle.ticks.proofs.QueueSound.run.Statement.{statement}
+use Rattle.ticks.proofs.QueueSound.run.Tie as tie
+
+abbrev Inv-loop : tie.InvT-loop
+Inv-loop n g queue v₀ k₀ v k = (v ≡ queueTicks k (g .frequency) (g .panpot) queue v₀) × (k ≤ n)
+
+abbrev μ-loop : tie.MeasureT-loop
+μ-loop n g queue v₀ k₀ v k = n - k
+
+loop-holds : tie.Need-loop-holds Inv-loop μ-loop
+unfolding queueTicks again
+loop-holds c = (refl, omega arith)
+
+step-requires : tie.Need-step-requires Inv-loop μ-loop
+step-requires c κs = search needs
+
+add-k : tie.Need-add-k Inv-loop μ-loop
+add-k c = search needs
+
+loop-less : tie.Need-loop-less Inv-loop μ-loop
+loop-less c = omega arith
+
+loop-again : tie.Need-loop-again Inv-loop μ-loop
+unfolding queueTicks
+loop-again c =
+    let a = c .before .before .before .args in
+    let l = c .before .before .loop in
+    (c .step .ensures ∙ ap (queueTick (a .g .frequency) (a .g .panpot) (a .queue .now)) (l .inv .0) ∙ sym (again-more (queueTick (a .g .frequency) (a .g .panpot) (a .queue .now)) (a .self) (l .k)), omega arith)
+
+returns : tie.Need-returns Inv-loop μ-loop
+returns c =
+    let a = c .before .before .args in
+    let l = c .before .loop in
+    let e : l .k ≡ a .n = omega arith in
+    l .inv .0 ∙ ap (λ (k : ℕ). queueTicks k (a .g .frequency) (a .g .panpot) (a .queue .now) (a .self)) e
+
+pub run-spec : {M : Type 1} → statement M
+run-spec =
+    tie.close
+    (tie.spec Inv-loop μ-loop loop-holds step-requires add-k loop-less loop-again returns)

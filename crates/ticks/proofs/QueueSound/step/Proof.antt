@@ -1,0 +1,35 @@
+use borrow.Author.Needs.{needs}
+use mathlib.Core.Path.{_≡_}
+use mathlib.Core.List.{List}
+use Prim.Native.Nat.{ℕ}
+use lib.IntN.{ℤ}
+use mir.Syntax.{w16}
+use mir.Val.{SFits}
+use Rattle.num.proofs.Integers.{back}
+use Rattle.registers.specs.declared.Fifo.{Fifo}
+use Rattle.ticks.specs.Mix.{heard}
+use Rattle.ticks.specs.Queues.{fifoTick, queueTick}
+use Rattle.ticks.specs.declared.Sides.{Sides}
+use Rattle.ticks.specs.declared.QueueSound.{QueueSound}
+use Rattle.ticks.proofs.QueueSound.step.Statement.{statement}
+use Rattle.ticks.proofs.QueueSound.step.Tie as tie
+
+step-is : (frequency panpot : ℕ) (q : List ℤ) (v : QueueSound) (f : Fifo) (sides : Sides) → f ≡ fifoTick frequency q (v .fifo) → sides ≡ heard (v .sides) (f .held) panpot
+    → _≡_ {A = QueueSound} (record { fifo = f; sides = sides }) (queueTick frequency panpot q v)
+unfolding queueTick
+step-is frequency panpot q v f sides ef es = rw (es, ef)
+
+tick-requires : tie.Need-tick-requires
+tick-requires c κs = search needs
+
+with-sample-requires : tie.Need-with-sample-requires
+with-sample-requires c κs = search needs
+
+returns : tie.Need-returns
+returns c =
+    let a = c .before .before .before .before .before .args in
+    let h : SFits w16 (c .before .before .tick .result .held) = record { sfits = c .before .struct-told .given .1 .1 .0 .1 } in
+    step-is (a .g .frequency) (a .g .panpot) (a .queue .now) (a .self) _ _ (c .before .before .tick .ensures) (rw (back w16 _ h) at (c .with-sample .ensures))
+
+pub step-spec : {M : Type 1} → statement M
+step-spec = tie.close (tie.spec tick-requires with-sample-requires returns)

@@ -1,0 +1,10 @@
+pub mod Again
+pub mod Oscillators
+pub mod Settings
+pub mod Finish
+pub mod Wavetable
+pub mod Pcm
+pub mod Noise
+pub mod Mix
+pub mod Sounds
+pub mod Queues

@@ -1,0 +1,27 @@
+// A queue's ticks. The volume does not apply.
+ghost use mathlib.Core.Path.{_≡_};
+ghost use Rattle.ticks.specs.Queues.{queueTick, queueTicks};
+use crate::QueueSound;
+use registers::Registers;
+
+impl QueueSound {
+    fn step(self, g: Registers, queue: &[i16]) -> QueueSound
+        ensures { λ r. ⌜ r ≡ queueTick (g .frequency) (g .panpot) (now (queue .entry)) self ⌝ }
+    {
+        let f = self.fifo;
+        let old = self.sides;
+        let fifo = f.tick(queue, g.frequency);
+        let sides = old.with_sample(fifo.held, g.panpot);
+        QueueSound { fifo, sides }
+    }
+
+    pub fn run(self, n: usize, g: Registers, queue: &[i16]) -> QueueSound
+        ensures { λ r. ⌜ r ≡ queueTicks n (g .frequency) (g .panpot) (now (queue .entry)) self ⌝ }
+    {
+        let mut v = self;
+        for k in 0..n {
+            v = v.step(g, queue);
+        }
+        v
+    }
+}
