@@ -2,9 +2,9 @@
 use mathlib.Core.Path.{_≡_, refl, sym, ap, _∙_, subst}
 use mathlib.Core.Bool.{Bool, true, false, cond}
 use mathlib.Core.List.{List}
-use Prim.Native.Nat.{ℕ, _+_, _-_, _*_, _/_, _%_, _^_, _≤_, _<_}
+use Prim.Native.Nat.{ℕ, _-_, _≤_, _<_}
 use native.Mathlib.Omega.{arith}
-use lib.Dec.{ltb, leb, eqb}
+use lib.Dec.{ltb, leb}
 use lib.ListN.{length, length-take, length-drop}
 use borrow.Author.Tests.{eqb-true, ltb-true, leb-true, eq-eqb, lt-ltb, le-leb}
 use Rattle.num.specs.Lists.{part}
@@ -15,8 +15,8 @@ use Rattle.stream.specs.declared.Info.{Info}
 use Rattle.stream.specs.declared.Held.{Held}
 use Rattle.stream.specs.declared.Held.the-variants as held
 use Rattle.stream.specs.declared.StreamCache.{StreamCache}
-use Rattle.stream.specs.Cache.{Plays, framesOf}
-use Rattle.stream.specs.Accepted.{both, sizesFit, loopFits, halfFits, fileFits, heldFits, acceptsCache, Fit}
+use Rattle.stream.specs.Cache.{Plays}
+use Rattle.stream.specs.Accepted.{both, sizesFit, fileFits, heldFits, acceptsCache, Fit}
 use Rattle.stream.specs.Ready.{Ready}
 use Rattle.stream.proofs.Fragments.{samples-range}
 use Rattle.stream.proofs.Counts.{both-true, both-is, loop-below}

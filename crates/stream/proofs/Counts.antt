@@ -5,9 +5,9 @@ use Prim.Native.Nat.{ℕ, _+_, _-_, _*_, _/_, _%_, _^_, _≤_, _<_}
 use native.Mathlib.Omega.{arith}
 use native.Mathlib.Decide.{decLe}
 use native.Mathlib.Nat.{div-add-mod', mul-mod-left, eq-of-mul-eq-mul-right, div-mul-le-self, mul-le-mul-left}
-use lib.Dec.{ltb, leb, eqb}
+use lib.Dec.{ltb, eqb}
 use borrow.Author.Tests.{eqb-true, eqb-false, ltb-true, eq-eqb, ne-eqb}
-use Rattle.num.proofs.Choice.{cond-by, never}
+use Rattle.num.proofs.Choice.{never}
 use Rattle.sqv4.specs.Files.{frameCount}
 use Rattle.stream.specs.Accepted.{both, loopFits}
 use Rattle.stream.proofs.Fragments.{first-below}

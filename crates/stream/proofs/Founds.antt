@@ -1,18 +1,17 @@
 -- The ways of the tick: what the cache finds. Assumes nothing.
-use mathlib.Core.Path.{_≡_, refl, sym, ap, _∙_}
+use mathlib.Core.Path.{_≡_, sym, ap, _∙_}
 use mathlib.Core.Bool.{Bool, true, false, cond}
 use mathlib.Core.List.{List}
 use Prim.Native.Nat.{ℕ, _-_}
 use lib.Dec.{eqb}
 use lib.ListN.{length}
-use lib.IntN.{ℤ}
 use Rattle.num.specs.Lists.{part}
 use Rattle.stream.specs.declared.Play.{Play}
 use Rattle.stream.specs.declared.Opened.{Opened}
-use Rattle.stream.specs.File.{sourceOf, openedFrom, openedIn}
+use Rattle.stream.specs.File.{sourceOf, openedIn}
 use Rattle.stream.specs.Cache.{Stock}
 use Rattle.stream.specs.Accepted.{acceptsCache}
-use Rattle.stream.specs.Tick.{Ticked, Found, absent, unheard, present, tickOf, heldFound, freshFound, cachedFound, cachedTick}
+use Rattle.stream.specs.Tick.{Found, unheard, tickOf, heldFound, freshFound, cachedFound, cachedTick}
 
 pub choose : {A : Type 0} (b : Bool) (x y : A) → b ≡ true → cond b x y ≡ x
 choose b x y e = ap (λ (t : Bool). cond t x y) e

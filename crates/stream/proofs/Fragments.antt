@@ -1,13 +1,13 @@
 -- A fragment decoded into its half of the samples. Assumes nothing.
-use mathlib.Core.Path.{_≡_, refl, sym, ap, _∙_, subst}
-use mathlib.Core.Bool.{Bool, true, false, cond}
-use mathlib.Core.List.{List, [], _∷_, _++_, append-nil, append-assoc}
-use Prim.Native.Nat.{ℕ, suc, _+_, _-_, _*_, _/_, _%_, _^_, _≤_, _<_, min}
+use mathlib.Core.Path.{_≡_, sym, ap, _∙_, subst}
+use mathlib.Core.Bool.{true}
+use mathlib.Core.List.{List, _++_, append-nil, append-assoc}
+use Prim.Native.Nat.{ℕ, _+_, _-_, _*_, _/_, _≤_, _<_, min}
 use native.Mathlib.Omega.{arith}
 use native.Mathlib.Nat.{mul-le-mul-right, mul-le-mul-left, le-div-iff-mul-le, div-mul-le-self, le-add-right}
 use lib.Dec.{eqb}
 use lib.ListN.{length, take, drop, length-take, length-drop, drop-of-length-le}
-use lib.Seq.{sets, sets-eq, length-sets}
+use lib.Seq.{sets, sets-eq}
 use lib.IntN.{ℤ}
 use borrow.Rule.Slice.PartMut.{putMid, post-is}
 use borrow.Author.Tests.{eqb-true, eqb-false}

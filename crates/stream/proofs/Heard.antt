@@ -1,30 +1,27 @@
 -- The tick of a valid cache, from what the code finds. Assumes nothing.
-use mathlib.Core.Path.{_≡_, refl, sym, ap, _∙_, subst}
+use mathlib.Core.Path.{_≡_, sym, ap, _∙_}
 use mathlib.Core.Bool.{Bool, true, false, cond}
 use mathlib.Core.List.{List}
-use Prim.Native.Nat.{ℕ, _+_, _-_, _*_, _/_, _%_, _≤_, _<_}
+use Prim.Native.Nat.{ℕ, _+_, _-_, _/_, _<_}
 use native.Mathlib.Omega.{arith}
 use lib.Dec.{ltb, eqb}
-use lib.ListN.{length}
-use lib.IntN.{ℤ, pos}
+use lib.IntN.{ℤ}
 use borrow.Author.Tests.{ltb-true, eqb-false}
 use Rattle.num.proofs.Choice.{cond-by, never}
 use Rattle.adpcm.specs.declared.Variant.{Variant}
 use Rattle.sqv4.specs.Files.{frameSamples}
-use Rattle.tone.specs.Phase.{whole, phaseOf}
-use Rattle.tone.specs.Phase.{fraction as fractionOf, stepped as steppedBy}
+use Rattle.tone.specs.Phase.{whole, fraction as fractionOf, stepped as steppedBy}
 use Rattle.tone.specs.Taps.{raisedSample, blendSamples}
 use Rattle.stream.specs.declared.Info.{Info}
 use Rattle.stream.specs.declared.Held.{Held}
-use Rattle.stream.specs.declared.Held.the-variants.{Nothing, Is}
+use Rattle.stream.specs.declared.Held.the-variants.{Is}
 use Rattle.stream.specs.declared.Plan.{Plan}
 use Rattle.stream.specs.declared.Plan.the-variants.{Stop, Sample}
 use Rattle.stream.specs.declared.Play.{Play}
 use Rattle.stream.specs.declared.StreamCache.{StreamCache}
 use Rattle.stream.specs.declared.Streamed.{Streamed}
 use Rattle.stream.specs.Cache.{Stock, stock, ensureIn}
-use Rattle.stream.specs.Tick.{Given, Ticked, Found, planOf, mixes, heardAt, playedBy, tickOf, tapAt, cachedRead, heldFound, streamedOf}
-use Rattle.stream.specs.Ready.{heardAs}
+use Rattle.stream.specs.Tick.{Given, Ticked, planOf, mixes, heardAt, playedBy, tickOf, tapAt, cachedRead, heldFound}
 
 -- ---- a value, from its reads
 module _ {S : Type 0} (read : S → ℕ → Given S) (i : Info) (p : Play) (frac : ℕ) (s : S) (at : ℕ) (g : Given S) (r : g ≡ read s at) where

@@ -1,12 +1,10 @@
 -- A decoder's index stays at most 88. Assumes nothing.
-use mathlib.Core.Path.{_≡_, refl, sym, ap, _∙_}
-use mathlib.Core.Bool.{Bool, true, false, cond}
 use mathlib.Core.List.{List, [], _∷_}
 use Prim.Native.Nat.{ℕ, _+_, _≤_, min}
 use native.Mathlib.Omega.{arith}
 use lib.Dec.{eqb}
 use lib.ListN.{getD}
-use lib.IntN.{ℤ, pos, natAbs, _+ℤ_}
+use lib.IntN.{ℤ, pos, _+ℤ_}
 use Rattle.num.specs.Integers.{clamp}
 use Rattle.num.proofs.Choice.{cond-by}
 use Rattle.num.proofs.Integers.{abs-is}
@@ -16,9 +14,9 @@ use Rattle.adpcm.specs.declared.Variant.the-variants.{H, L, LPlus}
 use Rattle.adpcm.specs.declared.State.{State}
 use Rattle.adpcm.specs.Ima.{indexAfter, imaCode}
 use Rattle.adpcm.specs.Codes.{decodeCode}
-use Rattle.sqv4.specs.Decoding.{ends, stateOf, begins, startOf, codesOf}
+use Rattle.sqv4.specs.Decoding.{ends, stateOf, begins, startOf}
 use Rattle.stream.specs.declared.Info.{Info}
-use Rattle.stream.specs.Cache.{fragmentState, bytesAt, countAt}
+use Rattle.stream.specs.Cache.{fragmentState, bytesAt}
 
 after-small : (i : ℕ) (a : ℤ) → indexAfter i a ≤ 88
 unfolding indexAfter

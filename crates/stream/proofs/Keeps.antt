@@ -1,6 +1,6 @@
 -- Every tick leaves an accepted cache accepted, coherent or not, and the samples as many as they were. Assumes nothing.
-use mathlib.Core.Path.{_≡_, refl, sym, ap, _∙_, subst}
-use mathlib.Core.Bool.{Bool, true, false, cond}
+use mathlib.Core.Path.{_≡_, refl, sym, _∙_, subst}
+use mathlib.Core.Bool.{Bool, true, false}
 use mathlib.Core.List.{List}
 use Prim.Native.Nat.{ℕ, zero, suc, _+_, _-_, _*_, _/_, _%_, _≤_, _<_}
 use native.Mathlib.Omega.{arith}
@@ -8,9 +8,9 @@ use lib.Dec.{ltb, eqb}
 use lib.ListN.{length, length-replicate}
 use lib.Seq.{length-sets}
 use lib.IntN.{ℤ, pos}
-use borrow.Author.Tests.{ltb-true, ltb-false, eqb-true, eqb-false, eq-eqb, lt-ltb}
+use borrow.Author.Tests.{ltb-false, eqb-true, eqb-false, eq-eqb, lt-ltb}
 use Rattle.num.specs.Lists.{part}
-use Rattle.num.proofs.Choice.{cond-by, never}
+use Rattle.num.proofs.Choice.{cond-by}
 use Rattle.adpcm.specs.declared.Variant.{Variant}
 use Rattle.adpcm.specs.declared.State.{State}
 use Rattle.sqv4.specs.Files.{frameSamples}
@@ -26,17 +26,17 @@ use Rattle.stream.specs.declared.Cached.the-variants.{Nothing, Frame}
 use Rattle.stream.specs.declared.Opened.{Opened}
 use Rattle.stream.specs.declared.Opened.the-variants.{NoFile, File}
 use Rattle.stream.specs.declared.StreamCache.{StreamCache}
-use Rattle.stream.specs.File.{sourceOf, openedIn}
-use Rattle.stream.specs.Cache.{Stock, stock, emptied, filledWith, rewoundFrom, cachedAt, isHeld, storedAs, Plays, framesOf, fragmentSamples, fragmentState, load, step, steps, ensure, ensureIn}
-use Rattle.stream.specs.Accepted.{both, halfFits, acceptsCache, Fit}
+use Rattle.stream.specs.File.{openedIn}
+use Rattle.stream.specs.Cache.{Stock, stock, emptied, filledWith, rewoundFrom, cachedAt, isHeld, storedAs, Plays, framesOf, fragmentSamples, fragmentState, load, step, steps, ensure}
+use Rattle.stream.specs.Accepted.{halfFits, acceptsCache, Fit}
 use Rattle.stream.specs.Tick.{Given, Ticked, Found, unheard, planOf, mixes, heardAt, playedBy, tickOf, cachedRead, heldFound, freshFound, cachedFound, cachedTick}
 use Rattle.stream.proofs.Fragments.{frame-there}
 use Rattle.stream.proofs.Counts.{both-is}
 use Rattle.stream.proofs.Indexes.{index-small}
 use Rattle.stream.proofs.Accepts.{AcceptedAs, accepted-as, as-accepted, accepts-free, accepted-ready}
 use Rattle.stream.proofs.Openings.{opened-accepted}
-use Rattle.stream.proofs.Heard.{Asks, Asked, plan-asks, mixes-next}
-use Rattle.stream.proofs.Founds.{found-short, found-held, found-odd, found-fresh, tick-by}
+use Rattle.stream.proofs.Heard.{Asks, plan-asks, mixes-next}
+use Rattle.stream.proofs.Founds.{found-short, found-held, found-fresh, tick-by}
 
 frame-fits : (f parity frames : ℕ) → f % 2 ≡ parity → f < frames → halfFits (Frame f) parity frames ≡ true
 unfolding halfFits

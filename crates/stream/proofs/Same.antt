@@ -2,22 +2,21 @@
 use mathlib.Core.Path.{_≡_, refl, sym, ap, ap₂, _∙_, subst}
 use mathlib.Core.Bool.{Bool, true, false, cond}
 use mathlib.Core.List.{List}
-use Prim.Native.Nat.{ℕ, _+_, _-_, _*_, _/_, _%_, _≤_, _<_}
+use Prim.Native.Nat.{ℕ, _+_, _-_, _*_, _/_, _%_, _<_}
 use native.Mathlib.Omega.{arith}
 use lib.Dec.{eqb}
 use lib.ListN.{length, getD, length-replicate}
 use lib.IntN.{ℤ, pos}
 use borrow.Author.Tests.{eq-eqb}
 use Rattle.num.specs.Lists.{part}
-use Rattle.num.proofs.Choice.{cond-by, never}
+use Rattle.num.proofs.Choice.{never}
 use Rattle.adpcm.specs.declared.Variant.{Variant}
 use Rattle.adpcm.specs.declared.State.{State}
 use Rattle.sqv4.specs.declared.Header.{Header}
-use Rattle.sqv4.specs.declared.Inspected.{Inspected}
-use Rattle.sqv4.specs.Files.{inspected, frameSamples, frameLength}
+use Rattle.sqv4.specs.Files.{inspected, frameLength}
 use Rattle.sqv4.specs.Decoding.{samplesOf, stateOf}
 use Rattle.sqv4.specs.Whole.{samplesFrom, stateFrom, pieces, channelWhole}
-use Rattle.tone.specs.Phase.{fraction, stepped}
+use Rattle.tone.specs.Phase.{fraction}
 use Rattle.tone.specs.Taps.{raisedSample, blendSamples}
 use Rattle.stream.specs.declared.Info.{Info}
 use Rattle.stream.specs.declared.Play.{Play}
@@ -25,21 +24,20 @@ use Rattle.stream.specs.declared.Plan.{Plan}
 use Rattle.stream.specs.declared.Plan.the-variants.{Stop, Sample}
 use Rattle.stream.specs.declared.Held.{Held}
 use Rattle.stream.specs.declared.Held.the-variants.{Is}
-use Rattle.stream.specs.declared.Cached.the-variants.{Nothing, Frame}
 use Rattle.stream.specs.declared.Opened.{Opened}
 use Rattle.stream.specs.declared.Opened.the-variants.{NoFile, File}
-use Rattle.stream.specs.File.{Source, sourceOf, infoOf, openedFrom, openedIn}
-use Rattle.stream.specs.Cache.{Stock, stock, emptied, filledWith, cachedAt, Plays, framesOf, bytesAt, countAt, fragmentSamples, fragmentState, ensureIn}
+use Rattle.stream.specs.File.{sourceOf, infoOf, openedIn}
+use Rattle.stream.specs.Cache.{Stock, stock, emptied, filledWith, Plays, framesOf, bytesAt, fragmentSamples, fragmentState, ensureIn}
 use Rattle.stream.specs.Accepted.{acceptsCache}
-use Rattle.stream.specs.Tick.{Given, Ticked, Found, absent, unheard, present, planOf, mixes, heardAt, playedBy, tickOf, tapAt, cachedRead, heldFound, freshFound, cachedFound, cachedTick, wholeIn, plainRead, plainFound, plainTick}
-use Rattle.stream.specs.Coherent.{Holds, HoldsFile, Valid, Coherent, CoherentIn}
+use Rattle.stream.specs.Tick.{Given, Ticked, planOf, mixes, heardAt, playedBy, tickOf, cachedRead, heldFound, freshFound, cachedTick, wholeIn, plainRead, plainFound, plainTick}
+use Rattle.stream.specs.Coherent.{HoldsFile, Valid, Coherent, CoherentIn}
 use Rattle.stream.proofs.Fragments.{per-range, frame-below, length-fragment, fragment-alone}
 use Rattle.stream.proofs.Pieces.{whole-at}
 use Rattle.stream.proofs.Onward.{Kept, kept-kept, kept-ensure}
 use Rattle.stream.proofs.Holding.{nothing-held, Ensured, ensure-ok, tap-ok}
-use Rattle.stream.proofs.Accepts.{AcceptedAs, accepted-as, accepted-ready}
+use Rattle.stream.proofs.Accepts.{accepted-ready}
 use Rattle.stream.proofs.Openings.{OpenedAs, opened-as, opened-mono, opened-told, opened-accepted}
-use Rattle.stream.proofs.Heard.{Asks, Asked, plan-asks, mixes-next}
+use Rattle.stream.proofs.Heard.{Asks, plan-asks, mixes-next}
 use Rattle.stream.proofs.Founds.{found-held, found-fresh, tick-by}
 
 -- ---- the whole, fragment by fragment

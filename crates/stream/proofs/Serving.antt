@@ -2,7 +2,7 @@
 use mathlib.Core.Path.{_≡_, refl, sym, ap, _∙_, subst}
 use mathlib.Core.Bool.{Bool, true, false, cond}
 use mathlib.Core.List.{List}
-use Prim.Native.Nat.{ℕ, _+_, _-_, _*_, _/_, _%_, _^_, _≤_, _<_, min}
+use Prim.Native.Nat.{ℕ, _+_, _-_, _*_, _/_, _%_, _^_, _≤_, _<_}
 use native.Mathlib.Omega.{arith}
 use native.Mathlib.Decide.{decLe}
 use native.Mathlib.Nat.{mul-le-mul, mod-lt}
@@ -10,26 +10,20 @@ use lib.Dec.{ltb, eqb}
 use lib.ListN.{length, getD, drop, length-take, length-drop}
 use lib.Seq.{getD-take, getD-drop}
 use lib.IntN.{ℤ, pos, _+ℤ_, _*ℤ_}
-use borrow.Author.Tests.{ltb-true, lt-ltb, le-ltb, eq-eqb, eqb-true, eqb-false}
+use borrow.Author.Tests.{ltb-true, lt-ltb, le-ltb, eq-eqb, eqb-true}
 use Rattle.num.specs.Lists.{part}
-use Rattle.num.specs.Integers.{up, down}
-use Rattle.num.proofs.Choice.{never}
 use Rattle.num.proofs.Integers.{z-eq, z-add, up-mul, down-mul}
-use Rattle.adpcm.specs.declared.Variant.{Variant}
 use Rattle.sqv4.specs.Files.{frameSamples}
 use Rattle.tone.specs.Phase.{whole, fraction, stepped}
 use Rattle.tone.specs.Taps.{raisedSample, blendSamples}
 use Rattle.stream.specs.declared.Info.{Info}
 use Rattle.stream.specs.declared.Play.{Play}
-use Rattle.stream.specs.declared.Plan.{Plan}
 use Rattle.stream.specs.declared.Plan.the-variants.{Sample}
-use Rattle.stream.specs.declared.Held.{Held}
-use Rattle.stream.specs.declared.Held.the-variants.{Is}
 use Rattle.stream.specs.declared.StreamCache.{StreamCache}
 use Rattle.stream.specs.declared.Window.{Window}
 use Rattle.stream.specs.Cache.{Stock, stock}
 use Rattle.stream.specs.Accepted.{acceptsCache}
-use Rattle.stream.specs.Tick.{Given, Ticked, planOf, mixes, heardAt, playedBy, tickOf, tapAt, cachedRead, heldFound, cachedTick}
+use Rattle.stream.specs.Tick.{Given, Ticked, planOf, heardAt, tapAt, cachedRead, heldFound, cachedTick}
 use Rattle.stream.specs.Window.{isSome, holdsFrame, reachOf, windowOf, offsetIn, servesAt, placeIn, tapIn, valueIn}
 use Rattle.stream.proofs.Fragments.{samples-range}
 use Rattle.stream.proofs.Counts.{by-per}

@@ -2,18 +2,17 @@
 use mathlib.Core.Path.{_≡_}
 use mathlib.Core.Bool.{Bool, true, false, cond}
 use mathlib.Core.List.{List}
-use Prim.Native.Nat.{ℕ, zero, suc, _+_, _-_, _*_, _/_, _%_, _≤_, min}
+use Prim.Native.Nat.{ℕ, zero, suc, _+_, _-_, _*_, _%_, _≤_, min}
 use lib.Dec.{ltb, eqb}
-use lib.ListN.{length, getD, replicate}
+use lib.ListN.{length}
 use lib.Seq.{sets}
-use lib.IntN.{ℤ, pos}
+use lib.IntN.{ℤ}
 use Rattle.num.specs.Lists.{part}
 use Rattle.adpcm.specs.declared.Variant.{Variant}
 use Rattle.adpcm.specs.declared.State.{State}
 use Rattle.sqv4.specs.Files.{frameSamples, frameSize, frameCount}
 use Rattle.sqv4.specs.Decoding.{samplesOf, stateOf, zeroState}
 use Rattle.stream.specs.declared.Info.{Info}
-use Rattle.stream.specs.declared.Held.{Held}
 use Rattle.stream.specs.declared.Held.the-variants.{Is}
 use Rattle.stream.specs.declared.Held.the-variants as held
 use Rattle.stream.specs.declared.Cached.{Cached}

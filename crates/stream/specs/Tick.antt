@@ -1,5 +1,5 @@
 -- A stream voice's tick, over how a sample of the stream is read: with the cache, and without one.
-use mathlib.Core.Bool.{Bool, true, false, cond}
+use mathlib.Core.Bool.{Bool, false, cond}
 use mathlib.Core.List.{List, []}
 use Prim.Native.Nat.{ℕ, _+_, _-_, _*_, _/_, _%_}
 use lib.Dec.{ltb, eqb}
@@ -21,8 +21,7 @@ use Rattle.stream.specs.declared.Opened.the-variants.{NoFile, File}
 use Rattle.stream.specs.declared.Held.{Held}
 use Rattle.stream.specs.declared.Held.the-variants.{Nothing, Is}
 use Rattle.stream.specs.declared.Streamed.{Streamed}
-use Rattle.stream.specs.declared.StreamCache.{StreamCache}
-use Rattle.stream.specs.File.{Source, sourceOf, openedFrom}
+use Rattle.stream.specs.File.{sourceOf, openedFrom}
 use Rattle.stream.specs.Cache.{Stock, stock, emptied, filledWith, ensureIn}
 use Rattle.stream.specs.Accepted.{acceptsCache}
 

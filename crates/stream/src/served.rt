@@ -1,9 +1,6 @@
 // Ticks that the cache serves.
 ghost use mathlib.Core.Path.{_≡_};
-ghost use mathlib.Core.Bool.{Bool};
-ghost use Prim.Native.Nat.{_+_, _-_, _*_, _/_, _%_, _^_, _<_, _≤_};
-ghost use lib.Dec.{ltb};
-ghost use Rattle.sqv4.specs.Files.{frameSamples};
+ghost use Prim.Native.Nat.{_+_, _-_, _*_, _/_, _%_, _^_, _<_};
 ghost use Rattle.stream.specs.Window.{isSome, reachOf, windowOf, offsetIn, servesAt, placeIn, tapIn, valueIn};
 use crate::Held;
 use crate::StreamCache;

@@ -2,12 +2,11 @@
 ghost use mathlib.Core.Path.{_≡_};
 ghost use mathlib.Core.Bool.{true, false};
 ghost use lib.IntN.{pos};
-ghost use Prim.Native.Nat.{_+_, _-_, _*_, _/_, _%_, _^_, _<_, _≤_};
+ghost use Prim.Native.Nat.{_+_, _-_, _*_, _/_, _%_, _^_, _<_};
 ghost use lib.ListN.{length};
-ghost use Rattle.num.specs.Lists.{part};
 ghost use Rattle.sqv4.specs.Files.{frameSamples};
 ghost use Rattle.stream.specs.Cache.{Plays, stock};
-ghost use Rattle.stream.specs.Tick.{planOf, mixes, heardAt, cachedRead, tapAt, tickOf, heldFound, cachedTick, streamedOf, ended};
+ghost use Rattle.stream.specs.Tick.{planOf, mixes, heardAt, cachedRead, tapAt, tickOf, heldFound, cachedTick, streamedOf};
 ghost use Rattle.stream.specs.Ready.{Ready, heardAs};
 use crate::Held;
 use crate::Info;

@@ -1,5 +1,5 @@
 use borrow.Author.Needs.{needs}
-use mathlib.Core.Path.{_≡_, refl, sym, ap, _∙_}
+use mathlib.Core.Path.{sym, ap, _∙_}
 use Prim.Native.Nat.{_-_}
 use borrow.Author.Tests.{not-true, not-false, lt-ltb, le-ltb, le-leb, lt-leb}
 use Rattle.stream.specs.declared.Held.{Held}

@@ -1,14 +1,12 @@
-use mathlib.Core.Path.{subst}
+use mathlib.Core.Path.{subst, _≡_, sym, ap, _∙_}
 use mathlib.Core.Bool.{false}
 use lib.Dec.{eqb}
 use lib.ListN.{length}
 use Rattle.stream.specs.declared.Info.{Info}
-use Rattle.stream.specs.Cache.{Plays}
+use Rattle.stream.specs.Cache.{Plays, Stock, stock, framesOf}
 use Rattle.stream.proofs.Fragments.{frames-below}
-use mathlib.Core.Path.{_≡_, refl, sym, ap, _∙_}
-use Prim.Native.Nat.{ℕ, _+_, _-_, _≤_, _<_}
+use Prim.Native.Nat.{_+_, _-_, _≤_, _<_}
 use native.Mathlib.Omega.{arith}
-use Rattle.stream.specs.Cache.{Stock, stock, framesOf}
 use Rattle.stream.proofs.Onward.{Going, start, turn, ended}
 use Rattle.stream.proofs.StreamCache.onward.Statement.{statement}
 use Rattle.stream.proofs.StreamCache.onward.Tie as tie

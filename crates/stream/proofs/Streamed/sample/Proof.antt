@@ -1,10 +1,9 @@
-use borrow.Author.Needs.{needs}
-use mathlib.Core.Path.{_≡_, refl, sym, ap, _∙_, subst}
-use Prim.Native.Nat.{ℕ, _+_, _<_}
+use borrow.Author.Needs.{needs, sfits-of}
+use mathlib.Core.Path.{_≡_, sym, ap, _∙_, subst}
+use Prim.Native.Nat.{_+_, _<_}
 use lib.Dec.{eqb}
 use lib.ListN.{length}
 use mir.Syntax.{w16}
-use borrow.Author.Needs.{sfits-of}
 use Rattle.num.proofs.Integers.{back}
 use Rattle.stream.specs.declared.Info.{Info}
 use Rattle.stream.specs.declared.StreamCache.{StreamCache}

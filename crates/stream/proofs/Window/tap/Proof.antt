@@ -1,5 +1,5 @@
 use borrow.Author.Needs.{needs}
-use mathlib.Core.Path.{_≡_, refl, sym, ap, _∙_, subst}
+use mathlib.Core.Path.{_≡_, _∙_}
 use Prim.Native.Nat.{_%_}
 use lib.ListN.{getD}
 use lib.IntN.{pos}

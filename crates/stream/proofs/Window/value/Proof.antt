@@ -1,8 +1,6 @@
-use borrow.Author.Needs.{needs}
-use mir.Syntax.{w32}
-use mathlib.Core.Path.{_≡_, refl, sym, ap, _∙_, subst}
-use mir.Syntax.{w16}
-use borrow.Author.Needs.{sfits-of}
+use borrow.Author.Needs.{needs, sfits-of}
+use mir.Syntax.{w32, w16}
+use mathlib.Core.Path.{_∙_}
 use Rattle.num.proofs.Integers.{back}
 use Rattle.stream.specs.Window.{valueIn}
 use Rattle.stream.proofs.Window.value.Statement.{statement}

@@ -1,5 +1,5 @@
 use borrow.Author.Needs.{needs}
-use borrow.Author.Tests.{lt-ltb, le-ltb, le-leb, lt-leb, eq-eqb, ne-eqb}
+use borrow.Author.Tests.{eq-eqb, ne-eqb}
 use Rattle.stream.proofs.accepted.frame_size_of.Statement.{statement}
 use Rattle.stream.proofs.accepted.frame_size_of.Tie as tie
 

@@ -1,5 +1,5 @@
 use borrow.Author.Needs.{needs}
-use mathlib.Core.Path.{_≡_, refl, sym, ap, _∙_}
+use mathlib.Core.Path.{sym}
 use Rattle.stream.proofs.Counts.{length-short, length-parted, length-is}
 use Rattle.stream.proofs.accepted.is_length_fit.Statement.{statement}
 use Rattle.stream.proofs.accepted.is_length_fit.Tie as tie

@@ -3,7 +3,7 @@ use lib.Seq.{sets}
 use Rattle.stream.specs.Cache.{fragmentSamples}
 use borrow.Author.Tests.{eq-eqb, ne-eqb}
 use mathlib.Core.Path.{_≡_, refl, sym, ap, _∙_}
-use Prim.Native.Nat.{ℕ, _+_, _-_, _*_, _%_, _≤_, _<_}
+use Prim.Native.Nat.{_+_, _-_, _*_, _%_, _≤_}
 use native.Mathlib.Omega.{arith}
 use lib.ListN.{length, take, drop, length-take, length-drop}
 use Rattle.stream.proofs.Fragments.{room-for, first-there, per-range, part-set, alone-is, legacy-samples, legacy-state, length-fragment}

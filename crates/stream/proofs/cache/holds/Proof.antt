@@ -1,5 +1,5 @@
 use borrow.Author.Needs.{needs}
-use mathlib.Core.Path.{_≡_, sym, ap, _∙_}
+use mathlib.Core.Path.{sym, ap}
 use Rattle.stream.specs.declared.Cached.{Cached}
 use Rattle.stream.specs.Cache.{isHeld}
 use Rattle.stream.proofs.cache.holds.Statement.{statement}

@@ -1,9 +1,8 @@
 use borrow.Author.Needs.{needs}
-use mathlib.Core.Path.{_≡_, refl, sym, ap, _∙_}
-use Prim.Native.Nat.{ℕ, _+_, _-_, _*_, _/_, _%_, _^_, _<_, _≤_}
-use native.Mathlib.Omega.{arith}
+use mathlib.Core.Path.{sym, ap, _∙_}
+use Prim.Native.Nat.{_+_, _-_, _/_, _%_}
 use borrow.Author.Tests.{lt-ltb, le-ltb, le-leb, lt-leb, eq-eqb, ne-eqb}
-use Rattle.stream.specs.declared.Opened.the-variants.{NoFile, File}
+use Rattle.stream.specs.declared.Opened.the-variants.{File}
 use Rattle.stream.specs.declared.Info.{Info}
 use Rattle.stream.proofs.Openings.{first-fits}
 use Rattle.stream.proofs.file.with_loop.Statement.{statement}

@@ -1,4 +1,4 @@
-use borrow.Author.Tests.{lt-ltb, le-ltb, le-leb, lt-leb, eq-eqb, ne-eqb}
+use borrow.Author.Tests.{eq-eqb, ne-eqb}
 use Rattle.stream.proofs.tick.frame_of.Statement.{statement}
 use Rattle.stream.proofs.tick.frame_of.Tie as tie
 

@@ -3,7 +3,7 @@ use Prim.Native.Nat.{_+_, _*_, _%_}
 use lib.ListN.{getD}
 use lib.IntN.{pos}
 use mir.Val.{toZ, ofZ}
-use mathlib.Core.Path.{_≡_, refl, sym, ap, _∙_, subst}
+use mathlib.Core.Path.{_≡_, _∙_}
 use mir.Syntax.{w16}
 use Rattle.stream.proofs.tick.tap.Statement.{statement}
 use Rattle.stream.proofs.tick.tap.Tie as tie

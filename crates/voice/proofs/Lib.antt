@@ -1,0 +1,4 @@
+pub mod Offsets
+pub mod Tests
+pub mod Keeps
+pub mod Clears

@@ -1,0 +1,4 @@
+pub mod Channel
+pub mod Writes
+pub mod Reads
+pub mod Accepted

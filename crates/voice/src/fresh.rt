@@ -1,0 +1,60 @@
+// A fresh channel, and what is begun anew of one.
+ghost use mathlib.Core.Path.{_≡_};
+ghost use Rattle.registers.specs.Queue.{defaultFifo};
+ghost use Rattle.stream.specs.Cache.{emptied};
+ghost use Rattle.voice.specs.Channel.{defaultChannel, setFifo, setStream, setVersion};
+use crate::Channel;
+use registers::Fifo;
+use registers::PcmRegisters;
+use registers::Registers;
+use stream::StreamCache;
+use ticks::Oscillator;
+use version::SguVersion;
+
+impl Channel {
+    pub fn default() -> Channel
+        ensures { λ r. ⌜ r ≡ defaultChannel ⌝ }
+    {
+        Channel {
+            oscillator: Oscillator::default(),
+            fifo: Fifo::default(),
+            stream: StreamCache::empty(),
+            pcm: PcmRegisters::default(),
+            registers: Registers::default(),
+        }
+    }
+
+    // Wavetable and decoded fragments are beside the channel.
+    pub fn reset(self) -> Channel
+        ensures { λ r. ⌜ r ≡ defaultChannel ⌝ }
+    {
+        Channel::default()
+    }
+
+    pub fn reset_fifo(mut self) -> Channel
+        ensures { λ r. ⌜ r ≡ setFifo self defaultFifo ⌝ }
+    {
+        let f = Fifo::default();
+        self.fifo = f;
+        self
+    }
+
+    pub fn invalidate_sqv4(mut self) -> Channel
+        ensures { λ r. ⌜ r ≡ setStream self emptied ⌝ }
+    {
+        let s = StreamCache::empty();
+        self.stream = s;
+        self
+    }
+
+    // The channel under another version: without FIFO where there is none; queue and cache are emptied.
+    pub fn set_version(mut self, version: SguVersion) -> Channel
+        ensures { λ r. ⌜ r ≡ setVersion self version ⌝ }
+    {
+        let g = self.registers;
+        let w = g.waveform_type;
+        let h = g.with_waveform(w.under(version));
+        self.registers = h;
+        self.reset_fifo().invalidate_sqv4()
+    }
+}
