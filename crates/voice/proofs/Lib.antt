@@ -2,3 +2,5 @@ pub mod Offsets
 pub mod Tests
 pub mod Keeps
 pub mod Clears
+pub mod StreamTicks
+pub mod ServedTicks
