@@ -1,0 +1,6 @@
+pub mod Addresses
+pub mod Core
+pub mod Writes
+pub mod Reads
+pub mod Accepted
+pub mod Own

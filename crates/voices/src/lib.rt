@@ -1,0 +1,17 @@
+// Eight voices with the tables beside them.
+mod accepted;
+mod addresses;
+mod fresh;
+mod reads;
+mod stored;
+mod writes;
+
+use voice::Channel;
+
+// A voice's decoded fragments are the 128 samples from 128 times the channel on, its wavetable the 256 bytes from 256 times
+// the channel on.
+pub struct Core {
+    pub channels: [Channel; 8],
+    pub fragments: [i16; 1024],
+    pub wavetables: [u8; 2048],
+}
