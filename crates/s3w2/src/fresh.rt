@@ -1,0 +1,111 @@
+// Chips made, reset, and under another version.
+ghost use mathlib.Core.Path.{_≡_};
+ghost use lib.ListN.{length};
+ghost use Rattle.version.specs.declared.SguVersion.the-variants.{«V3_1»};
+ghost use Rattle.s3w2.specs.Fresh.{madeCalled, madeRam, setVersionCalled, resetCalled, resetRam, resetChannelCalled};
+ghost use Rattle.s3w2.specs.Chips.{withCore, zeroed};
+ghost use Rattle.s3w2.specs.Answers.{answered};
+use crate::Answer;
+use crate::Called;
+use crate::Chip;
+use crate::refusals::is_done;
+use version::SguVersion;
+use voices::Core;
+
+fn zero(ram: &mut [u8])
+    ensures { λ _. ⌜ now (ram .exit) ≡ zeroed (now (ram .entry)) ⌝ }
+{
+    let mut i = 0;
+    while i < ram.len() {
+        ram[i] = 0;
+        i += 1;
+    }
+}
+
+impl Chip {
+    pub(crate) fn answers(self, answer: Answer) -> Called
+        ensures { λ r. ⌜ r ≡ answered self answer ⌝ }
+    {
+        Called { chip: self, answer }
+    }
+
+    // The chip with another core.
+    pub(crate) fn with_core(self, core: Core, answer: Answer) -> Called
+        ensures { λ r. ⌜ r ≡ answered (withCore self core) answer ⌝ }
+    {
+        let version = self.version;
+        Called {
+            chip: Chip { version, core },
+            answer,
+        }
+    }
+
+    // A fresh chip; its RAM is zeroed.
+    pub fn with_version(ram: &mut [u8], version: SguVersion) -> Called
+        ensures { λ r. ⌜ r ≡ madeCalled (length (now (ram .entry))) version ⌝ }
+        ensures { λ _. ⌜ now (ram .exit) ≡ madeRam (now (ram .entry)) ⌝ }
+    {
+        let chip = Chip {
+            version,
+            core: Core::default(),
+        };
+        if !tone::is_ram_length(ram.len()) {
+            return chip.answers(Answer::RamLength);
+        }
+        zero(ram);
+        chip.answers(Answer::Done)
+    }
+
+    pub fn with_pcm_ram(ram: &mut [u8]) -> Called
+        ensures { λ r. ⌜ r ≡ madeCalled (length (now (ram .entry))) «V3_1» ⌝ }
+        ensures { λ _. ⌜ now (ram .exit) ≡ madeRam (now (ram .entry)) ⌝ }
+    {
+        Chip::with_version(ram, SguVersion::V3_1)
+    }
+
+    pub fn new(ram: &mut [u8]) -> Called
+        ensures { λ r. ⌜ r ≡ madeCalled (length (now (ram .entry))) «V3_1» ⌝ }
+        ensures { λ _. ⌜ now (ram .exit) ≡ madeRam (now (ram .entry)) ⌝ }
+    {
+        Chip::with_pcm_ram(ram)
+    }
+
+    pub fn set_version(self, version: SguVersion) -> Called
+        ensures { λ r. ⌜ r ≡ setVersionCalled self version ⌝ }
+    {
+        let refusal = self.refusal();
+        if !is_done(refusal) {
+            return self.answers(refusal);
+        }
+        let core = self.core;
+        let chip = Chip {
+            version,
+            core: core.set_version(version),
+        };
+        chip.answers(Answer::Done)
+    }
+
+    pub fn reset(self, ram: &mut [u8]) -> Called
+        ensures { λ r. ⌜ r ≡ resetCalled self (length (now (ram .entry))) ⌝ }
+        ensures { λ _. ⌜ now (ram .exit) ≡ resetRam self (now (ram .entry)) ⌝ }
+    {
+        let refusal = self.refusal_with_ram(ram.len());
+        if !is_done(refusal) {
+            return self.answers(refusal);
+        }
+        zero(ram);
+        self.with_core(Core::default(), Answer::Done)
+    }
+
+    // A channel above 7 is none.
+    pub fn reset_channel(self, ch: usize) -> Called
+        ensures { λ r. ⌜ r ≡ resetChannelCalled self ch ⌝ }
+    {
+        let refusal = self.refusal();
+        if !is_done(refusal) {
+            return self.answers(refusal);
+        }
+        let core = self.core;
+        self.with_core(core.reset_channel(ch), Answer::Done)
+    }
+}

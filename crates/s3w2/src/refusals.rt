@@ -1,0 +1,116 @@
+// Why a call is turned away, in the order of document 01's table: RAM length, queue buffer, state, stem buffer.
+ghost use mathlib.Core.Path.{_≡_};
+ghost use lib.Dec.{eqb};
+ghost use Prim.Native.Nat.{_*_};
+ghost use Rattle.s3w2.specs.Answers.{isDone};
+ghost use Rattle.s3w2.specs.Refusals.{acceptsChip, ownRefusal, ramRefusal, queuesRefusal, soundRefusal, clockRefusal};
+use crate::Answer;
+use crate::Chip;
+
+// The largest RAM length: no address of an accepted state is past it, so it stands for a RAM that is not lent.
+const LARGEST: usize = 16777216;
+
+// Whether a call may go on.
+pub(crate) fn is_done(answer: Answer) -> bool
+    ensures { λ r. ⌜ r ≡ isDone answer ⌝ }
+{
+    match answer {
+        Answer::Done => true,
+        Answer::Byte(_) => false,
+        Answer::Sample(_) => false,
+        Answer::Count(_) => false,
+        Answer::Flag(_) => false,
+        Answer::RamLength => false,
+        Answer::QueueBuffer => false,
+        Answer::NotAccepted => false,
+        Answer::StemBuffer => false,
+    }
+}
+
+// Whether a stem buffer has 16 entries a frame.
+fn is_stem_buffer(length: usize, frames: usize) -> bool
+    ensures { λ r. ⌜ r ≡ eqb length (16 * frames) ⌝ }
+{
+    if length % 16 != 0 {
+        return false;
+    }
+    length / 16 == frames
+}
+
+impl Chip {
+    // Whether the state is accepted over a RAM of a length.
+    pub fn accepts(self, length: usize) -> bool
+        ensures { λ r. ⌜ r ≡ acceptsChip self length ⌝ }
+    {
+        let version = self.version;
+        let core = self.core;
+        core.accepts(version, length)
+    }
+
+    // A call that is lent neither RAM nor queues.
+    pub(crate) fn refusal(self) -> Answer
+        ensures { λ r. ⌜ r ≡ ownRefusal self ⌝ }
+    {
+        if !self.accepts(LARGEST) {
+            return Answer::NotAccepted;
+        }
+        Answer::Done
+    }
+
+    pub(crate) fn refusal_with_ram(self, length: usize) -> Answer
+        ensures { λ r. ⌜ r ≡ ramRefusal self length ⌝ }
+    {
+        if !tone::is_ram_length(length) {
+            return Answer::RamLength;
+        }
+        if !self.accepts(length) {
+            return Answer::NotAccepted;
+        }
+        Answer::Done
+    }
+
+    pub(crate) fn refusal_with_queues(self, queues: usize) -> Answer
+        ensures { λ r. ⌜ r ≡ queuesRefusal self queues ⌝ }
+    {
+        if queues != 16384 {
+            return Answer::QueueBuffer;
+        }
+        self.refusal()
+    }
+
+    // A call that is lent both.
+    pub(crate) fn refusal_of_sound(self, length: usize, queues: usize) -> Answer
+        ensures { λ r. ⌜ r ≡ soundRefusal self length queues ⌝ }
+    {
+        if !tone::is_ram_length(length) {
+            return Answer::RamLength;
+        }
+        if queues != 16384 {
+            return Answer::QueueBuffer;
+        }
+        if !self.accepts(length) {
+            return Answer::NotAccepted;
+        }
+        Answer::Done
+    }
+
+    // A call that is lent stems too.
+    pub(crate) fn refusal_of_clock(
+        self,
+        length: usize,
+        queues: usize,
+        frames: usize,
+        stems: usize,
+    ) -> Answer
+        ensures { λ r. ⌜ r ≡ clockRefusal self length queues frames stems ⌝ }
+    {
+        let refusal = self.refusal_of_sound(length, queues);
+        if !is_done(refusal) {
+            return refusal;
+        }
+        if !is_stem_buffer(stems, frames) {
+            return Answer::StemBuffer;
+        }
+        Answer::Done
+    }
+}
