@@ -1,13 +1,12 @@
 // What the Rattle programs sqv4_dump and sqv4_vectors print, printed by the original decoder.
-// `build` puts the original sqv4.rs beside this file in a folder outside the repository.
 //
 //   sqv4_dump            one file on standard input
 //   sqv4_dump --batch    any number of files on standard input, each after its length in 4 bytes, low byte first
 
-#[allow(dead_code)]
-mod sqv4;
-
-use sqv4::{Error, Header};
+mod sgu {
+    pub mod sqv4;
+}
+use sgu::sqv4::{self, Error, Header};
 use std::io::{self, Read, Write};
 
 const MOST: usize = 1_048_576;

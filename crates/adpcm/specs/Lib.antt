@@ -1,3 +1,2 @@
 pub mod Ima
 pub mod Codes
-pub mod Marked

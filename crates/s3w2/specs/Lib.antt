@@ -5,3 +5,6 @@ pub mod Fresh
 pub mod Ram
 pub mod Channels
 pub mod Registers
+pub mod Sound
+pub mod Mixing
+pub mod Marked

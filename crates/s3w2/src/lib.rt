@@ -2,8 +2,10 @@
 mod addressed;
 mod channels;
 mod fresh;
+mod mixing;
 mod ram;
 mod refusals;
+mod sound;
 
 use version::SguVersion;
 use voices::Core;

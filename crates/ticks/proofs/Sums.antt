@@ -27,7 +27,7 @@ use Rattle.registers.specs.declared.WaveformType.the-variants.{Wavetable, Pcm, 
 use Rattle.ticks.specs.Again.{again}
 use Rattle.ticks.specs.Wavetable.{wavetableTick}
 use Rattle.ticks.specs.Pcm.{pcmTick}
-use Rattle.ticks.specs.Mix.{silence, heard, Room, soundAfter}
+use Rattle.ticks.specs.Mix.{silence, heard, Room, Adds, soundAfter}
 use Rattle.ticks.specs.Sounds.{targetFor, Tick, soundTick, ticksOf, noiseOf, dmaOf, soundTicks}
 use Rattle.ticks.specs.Queues.{queueTick, queueTicks}
 use Rattle.ticks.specs.declared.Oscillator.{Oscillator}
@@ -64,6 +64,13 @@ module _ (n : ℕ) (v : Sides) (x : ℤ) (panpot : ℕ) (small : n < 2 ^ 18) (f 
 
   pub heard-room : Room (n + 1) (heard v x panpot)
   heard-room = rw heard-exact (record { lefts = one-more (v .left) (highNibble panpot) (omega arith) (r .lefts); rights = one-more (v .right) (lowNibble panpot) (omega arith) (r .rights) })
+
+-- some ticks and one more
+pub adds-more : (k : ℕ) (u v w : Sides) → Adds k u v → Adds 1 v w → Adds (k + 1) u w
+adds-more k u v w f g m h r = subst (λ (i : ℕ). Room i w) (sum m k) (g (m + k) (omega arith) (f m (omega arith) r))
+  where
+    sum : (m k : ℕ) → m + k + 1 ≡ m + (k + 1)
+    sum m k = omega arith
 
 -- ---- a voice's ticks
 

@@ -1,5 +1,5 @@
 -- A tick's sample on the two sides.
-use Prim.Native.Nat.{ℕ}
+use Prim.Native.Nat.{ℕ, _+_, _≤_, _^_}
 use lib.IntN.{ℤ, pos}
 use Rattle.tone.specs.Mix.{lastSample, volumeOf, highNibble, lowNibble, wrappingAdd}
 use Rattle.tone.specs.Sides.{side, Ticks}
@@ -24,6 +24,10 @@ heard v sample panpot = record {
 pub record Room (n : ℕ) (v : Sides) : Type 0 where
   pub lefts : Ticks n (v .left)
   pub rights : Ticks n (v .right)
+
+-- n ticks more give no more than n ticks can
+abbrev pub Adds : ℕ → Sides → Sides → Type 0
+Adds n before after = (m : ℕ) → m + n ≤ 2 ^ 18 → Room m before → Room (m + n) after
 
 -- what a tick leaves: its whole samples for other voices to see, and its sample on the sides
 unfoldable pub soundAfter : Setting → Sides → Ticked → Sound

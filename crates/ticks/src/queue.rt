@@ -1,5 +1,6 @@
 // A queue's ticks. The volume does not apply.
 ghost use mathlib.Core.Path.{_≡_};
+ghost use Rattle.ticks.specs.Mix.{Adds};
 ghost use Rattle.ticks.specs.Queues.{queueTick, queueTicks};
 use crate::QueueSound;
 use registers::Registers;
@@ -7,6 +8,7 @@ use registers::Registers;
 impl QueueSound {
     fn step(self, g: Registers, queue: &[i16]) -> QueueSound
         ensures { λ r. ⌜ r ≡ queueTick (g .frequency) (g .panpot) (now (queue .entry)) self ⌝ }
+        ensures { λ r. ⌜ Adds 1 (self .sides) (r .sides) ⌝ }
     {
         let f = self.fifo;
         let old = self.sides;
@@ -17,6 +19,7 @@ impl QueueSound {
 
     pub fn run(self, n: usize, g: Registers, queue: &[i16]) -> QueueSound
         ensures { λ r. ⌜ r ≡ queueTicks n (g .frequency) (g .panpot) (now (queue .entry)) self ⌝ }
+        ensures { λ r. ⌜ Adds n (self .sides) (r .sides) ⌝ }
     {
         let mut v = self;
         for k in 0..n {

@@ -7,3 +7,4 @@ pub mod Channels
 pub mod Sides
 pub mod Ranges
 pub mod Scaled
+pub mod Fifteenths

@@ -6,4 +6,3 @@ pub mod Pcm
 pub mod Mix
 pub mod Sides
 pub mod Targets
-pub mod Marked

@@ -60,7 +60,7 @@ pub fn stream_volume_of(q8: i32, volume: u8) -> i16
 pub fn gained(q8: i16, volume: u8) -> i16
     ensures { λ r. ⌜ r ≡ masterGain (volumeOf q8 volume) ⌝ }
 {
-    scaled(q8 as i32, volume, 8192) as i16
+    ((q8 as i32) * (volume as i32) / 8192) as i16
 }
 
 pub fn stream_gained(q8: i32, volume: u8) -> i16
@@ -91,11 +91,12 @@ pub fn low_nibble(panpot: u8) -> u8
     panpot & 15
 }
 
+// 15 times 8,947,849 is 2^27 + 7: a product and a power of two divide by 15.
 pub fn pan(sample: i16, weight: u8) -> i32
     ensures { λ r. ⌜ r ≡ panOf sample weight ⌝ }
     ensures { λ r. ⌜ (weight ≤ 15 → (up r ≤ up sample) × (down r ≤ down sample)) ⌝ }
 {
-    scaled(sample as i32, weight, 15)
+    ((sample as i64) * ((weight as i64) * 8947849) / 134217728) as i32
 }
 
 pub fn saturate_output(sample: i32) -> i16

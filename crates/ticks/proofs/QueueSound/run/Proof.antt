@@ -1,22 +1,25 @@
 use borrow.Author.Needs.{needs}
-use mathlib.Core.Path.{_≡_, refl, sym, ap, _∙_}
+use mathlib.Core.Path.{_≡_, refl, sym, ap, _∙_, subst}
 use Prim.Native.Nat.{ℕ, _-_, _≤_}
+use native.Mathlib.Nat as N
 use native.Mathlib.Omega.{arith}
 use Rattle.ticks.specs.Again.{again}
+use Rattle.ticks.specs.Mix.{Room, Adds}
 use Rattle.ticks.specs.Queues.{queueTick, queueTicks}
 use Rattle.ticks.proofs.Again.{again-more}
+use Rattle.ticks.proofs.Sums.{adds-more}
 use Rattle.ticks.proofs.QueueSound.run.Statement.{statement}
 use Rattle.ticks.proofs.QueueSound.run.Tie as tie
 
 abbrev Inv-loop : tie.InvT-loop
-Inv-loop n g queue v₀ k₀ v k = (v ≡ queueTicks k (g .frequency) (g .panpot) queue v₀) × (k ≤ n)
+Inv-loop n g queue v₀ k₀ v k = (v ≡ queueTicks k (g .frequency) (g .panpot) queue v₀) × Adds k (v₀ .sides) (v .sides) × (k ≤ n)
 
 abbrev μ-loop : tie.MeasureT-loop
 μ-loop n g queue v₀ k₀ v k = n - k
 
 loop-holds : tie.Need-loop-holds Inv-loop μ-loop
 unfolding queueTicks again
-loop-holds c = (refl, omega arith)
+loop-holds c = (refl, λ m l r. subst (λ (i : ℕ). Room i (c .args .self .sides)) (sym (N.add-zero m)) r, omega arith)
 
 step-requires : tie.Need-step-requires Inv-loop μ-loop
 step-requires c κs = search needs
@@ -32,14 +35,14 @@ unfolding queueTicks
 loop-again c =
     let a = c .before .before .before .args in
     let l = c .before .before .loop in
-    (c .step .ensures ∙ ap (queueTick (a .g .frequency) (a .g .panpot) (a .queue .now)) (l .inv .0) ∙ sym (again-more (queueTick (a .g .frequency) (a .g .panpot) (a .queue .now)) (a .self) (l .k)), omega arith)
+    (c .step .ensures .0 ∙ ap (queueTick (a .g .frequency) (a .g .panpot) (a .queue .now)) (l .inv .0) ∙ sym (again-more (queueTick (a .g .frequency) (a .g .panpot) (a .queue .now)) (a .self) (l .k)), adds-more (l .k) _ _ _ (l .inv .1) (c .step .ensures .1), omega arith)
 
 returns : tie.Need-returns Inv-loop μ-loop
 returns c =
     let a = c .before .before .args in
     let l = c .before .loop in
     let e : l .k ≡ a .n = omega arith in
-    l .inv .0 ∙ ap (λ (k : ℕ). queueTicks k (a .g .frequency) (a .g .panpot) (a .queue .now) (a .self)) e
+    (l .inv .0 ∙ ap (λ (k : ℕ). queueTicks k (a .g .frequency) (a .g .panpot) (a .queue .now) (a .self)) e, subst (λ (k : ℕ). Adds k (a .self .sides) (l .v .sides)) e (l .inv .1))
 
 pub run-spec : {M : Type 1} → statement M
 run-spec =

@@ -1,16 +1,18 @@
 use borrow.Author.Needs.{needs}
-use mathlib.Core.Path.{_≡_}
+use mathlib.Core.Path.{_≡_, sym, subst}
 use mathlib.Core.List.{List}
-use Prim.Native.Nat.{ℕ}
+use Prim.Native.Nat.{ℕ, _+_}
+use native.Mathlib.Omega.{arith}
 use lib.IntN.{ℤ}
 use mir.Syntax.{w16}
 use mir.Val.{SFits}
 use Rattle.num.proofs.Integers.{back}
 use Rattle.registers.specs.declared.Fifo.{Fifo}
-use Rattle.ticks.specs.Mix.{heard}
+use Rattle.ticks.specs.Mix.{heard, Room}
 use Rattle.ticks.specs.Queues.{fifoTick, queueTick}
 use Rattle.ticks.specs.declared.Sides.{Sides}
 use Rattle.ticks.specs.declared.QueueSound.{QueueSound}
+use Rattle.ticks.proofs.Sums.{heard-room}
 use Rattle.ticks.proofs.QueueSound.step.Statement.{statement}
 use Rattle.ticks.proofs.QueueSound.step.Tie as tie
 
@@ -27,9 +29,13 @@ with-sample-requires c κs = search needs
 
 returns : tie.Need-returns
 returns c =
-    let a = c .before .before .before .before .before .args in
+    let b = c .before .before .before .before .before in
+    let a = b .args in
     let h : SFits w16 (c .before .before .tick .result .held) = record { sfits = c .before .struct-told .given .1 .1 .0 .1 } in
-    step-is (a .g .frequency) (a .g .panpot) (a .queue .now) (a .self) _ _ (c .before .before .tick .ensures) (rw (back w16 _ h) at (c .with-sample .ensures))
+    let e = rw (back w16 _ h) at (c .with-sample .ensures) in (
+      step-is (a .g .frequency) (a .g .panpot) (a .queue .now) (a .self) _ _ (c .before .before .tick .ensures) e,
+      λ m l r. subst (Room (m + 1)) (sym e) (heard-room m (a .self .sides) (c .before .before .tick .result .held) (a .g .panpot) (omega arith) h (b .good .1 .0 .1 .1 .1 .1 .1 .0 .1) r),
+    )
 
 pub step-spec : {M : Type 1} → statement M
 step-spec = tie.close (tie.spec tick-requires with-sample-requires returns)

@@ -1,0 +1,56 @@
+-- What turns ask for, test by test. Assumes nothing.
+use mathlib.Core.Path.{_≡_, refl, sym, ap, _∙_}
+use mathlib.Core.Bool.{Bool, true, false, cond, _&&_}
+use mathlib.Core.List.{List}
+use Prim.Native.Nat.{ℕ, _≤_, _<_}
+use native.Mathlib.Omega.{arith}
+use lib.Dec.{eqb, leb}
+use lib.ListN.{length}
+use lib.IntN.{ℤ}
+use borrow.Author.Tests.{leb-true, eqb-true, le-leb, lt-leb, eq-eqb, ne-eqb}
+use Rattle.num.proofs.Choice.{both}
+use Rattle.version.specs.declared.SguVersion.{SguVersion}
+use Rattle.voice.proofs.Tests.{fails, passes, first-arm, second-arm}
+use Rattle.voices.specs.Accepted.{acceptsCore}
+use Rattle.voices.specs.declared.Core.{Core}
+use Rattle.frames.specs.Turning.{Turns, noTurn, turned, mayRun, runOf}
+
+module _ (version : SguVersion) (ram : List ℕ) (queues : List ℤ) (n : ℕ) (core : Core) where
+  pub no-queues : (length queues ≡ 16384 → ⊥) → false ≡ mayRun version ram queues n core
+  unfolding mayRun
+  no-queues h = fails _ _ (ne-eqb (length queues) 16384 h)
+
+  pub no-ticks : length queues ≡ 16384 → n < 1 → false ≡ mayRun version ram queues n core
+  unfolding mayRun
+  no-ticks e h = passes _ _ (eq-eqb (length queues) 16384 e) (fails _ _ (lt-leb 1 n h))
+
+  pub more-ticks : length queues ≡ 16384 → 1 ≤ n → 4 < n → false ≡ mayRun version ram queues n core
+  unfolding mayRun
+  more-ticks e l h = passes _ _ (eq-eqb (length queues) 16384 e) (passes _ _ (le-leb 1 n l) (fails _ _ (lt-leb n 4 h)))
+
+  pub asked : length queues ≡ 16384 → 1 ≤ n → n ≤ 4 → acceptsCore core version (length ram) ≡ mayRun version ram queues n core
+  unfolding mayRun
+  asked e l h = passes _ _ (eq-eqb (length queues) 16384 e) (passes _ _ (le-leb 1 n l) (passes _ _ (le-leb n 4 h) refl))
+
+  -- what they say together
+  pub record May : Type 0 where
+    pub entries : length queues ≡ 16384
+    pub low : 1 ≤ n
+    pub high : n ≤ 4
+    pub accepted : acceptsCore core version (length ram) ≡ true
+
+  pub may : mayRun version ram queues n core ≡ true → May
+  unfolding mayRun
+  may e =
+      let a = both (eqb (length queues) 16384) _ e in
+      let b = both (leb 1 n) _ (a .1) in
+      let d = both (leb n 4) _ (b .1) in
+      record { entries = eqb-true _ _ (a .0); low = leb-true _ _ (b .0); high = leb-true _ _ (d .0); accepted = d .1 }
+
+  pub ran : (first k : ℕ) → mayRun version ram queues n core ≡ true → turned version ram queues first n k core ≡ runOf version ram queues first n k core
+  unfolding runOf
+  ran first k e = first-arm _ (turned version ram queues first n k core) (noTurn core) e
+
+  pub refused : (first k : ℕ) → mayRun version ram queues n core ≡ false → noTurn core ≡ runOf version ram queues first n k core
+  unfolding runOf
+  refused first k e = second-arm _ (turned version ram queues first n k core) (noTurn core) e

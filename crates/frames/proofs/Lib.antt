@@ -1,0 +1,12 @@
+pub mod Parts
+pub mod ServedStreams
+pub mod StreamRuns
+pub mod Stores
+pub mod Keeping
+pub mod Fits
+pub mod Calls
+pub mod Turns
+pub mod Loop
+pub mod Asks
+pub mod Framing
+pub mod Wells

@@ -1,0 +1,36 @@
+use borrow.Author.Needs.{needs}
+use mathlib.Core.Path.{_≡_, sym, ap, _∙_}
+use Prim.Native.Nat.{_/_}
+use lib.ListN.{length}
+use lib.Seq.{sets}
+use Rattle.frames.specs.Turning.{Turns, afterTurns}
+use Rattle.frames.proofs.Asks.{may, ran, refused}
+use Rattle.frames.proofs.loops.run.Statement.{statement}
+use Rattle.frames.proofs.loops.run.Tie as tie
+
+may-run-requires : tie.Need-may-run-requires
+may-run-requires c κs = search needs
+
+turns-requires : tie.Need-turns-requires
+turns-requires c κs =
+    let a = c .before .before .before .before .args in
+    let m = may (a .version) (a .ram .now) (a .queues .now) (a .ticks) (a .core) (sym (c .before .before .may-run .ensures) ∙ c .before .if1 .taken) in
+    ((m .low, m .high), (m .entries, m .accepted))
+
+same-length : tie.Need-same-length
+same-length c = search needs
+
+returns : tie.Need-returns
+returns c =
+    let a = c .before .before .before .before .before .before .args in
+    let e = ran (a .version) (a .ram .now) (a .queues .now) (a .ticks) (a .core) (a .first) (length (a .stems .now) / 2) (sym (c .before .before .before .before .may-run .ensures) ∙ c .before .before .before .if1 .taken) in
+    (c .before .turns .ensures .0 ∙ ap afterTurns e, (c .before .turns .ensures .1 .0 ∙ ap (λ (t : Turns). sets (a .stems .now) 0 (t .stems)) e, λ h. c .before .turns .ensures .1 .1))
+
+returns-2 : tie.Need-returns-2
+returns-2 c =
+    let a = c .before .before .before .args in
+    let e = refused (a .version) (a .ram .now) (a .queues .now) (a .ticks) (a .core) (a .first) (length (a .stems .now) / 2) (sym (c .before .may-run .ensures) ∙ c .if1 .left) in
+    (ap afterTurns e, (ap (λ (t : Turns). sets (a .stems .now) 0 (t .stems)) e, λ h. h))
+
+pub run-spec : {M : Type 1} → statement M
+run-spec = tie.close (tie.spec may-run-requires turns-requires same-length returns returns-2)

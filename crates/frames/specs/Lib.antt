@@ -1,0 +1,3 @@
+pub mod Ticking
+pub mod Turning
+pub mod Kept

@@ -1,0 +1,74 @@
+use borrow.Author.Needs.{needs, sfits-of}
+use mathlib.Core.Path.{_≡_, refl, sym, ap, _∙_}
+use lib.IntN.{ℤ}
+use mir.Syntax.{w16}
+use mir.Val.{SFits}
+use borrow.Author.Tests.{not-true, not-false}
+use Rattle.num.proofs.Integers.{back}
+use Rattle.s3w2.specs.declared.Answer.the-variants.{Sample}
+use Rattle.s3w2.specs.Answers.{answered}
+use Rattle.s3w2.specs.Chips.{withCore}
+use Rattle.s3w2.specs.Sound.{generateSampleCalled}
+use Rattle.s3w2.proofs.Refused.{away, goes-called}
+use Rattle.s3w2.proofs.Cases.{all-there}
+use Rattle.s3w2.proofs.Sounds.{sample-none, sample-some}
+use Rattle.s3w2.proofs.Chip.generate_sample.Statement.{statement}
+use Rattle.s3w2.proofs.Chip.generate_sample.Tie as tie
+
+refusal-of-sound-requires : tie.Need-refusal-of-sound-requires
+refusal-of-sound-requires c κs = search needs
+
+is-done-requires : tie.Need-is-done-requires
+is-done-requires c κs = search needs
+
+answers-requires : tie.Need-answers-requires
+answers-requires c κs = search needs
+
+returns : tie.Need-returns
+unfolding generateSampleCalled
+returns c = (c .answers .ensures ∙ away (c .before .before .before .refusal-of-sound .result) _ (c .before .before .before .refusal-of-sound .ensures) _ _ (sym (c .before .before .is-done .ensures) ∙ not-true _ (c .before .if1 .taken)), refl)
+
+answers-requires-2 : tie.Need-answers-requires-2
+answers-requires-2 c κs = search needs
+
+returns-2 : tie.Need-returns-2
+unfolding generateSampleCalled
+returns-2 c =
+    let a = c .before .before .before .before .before .before .args in
+    (goes-called (c .before .before .before .before .refusal-of-sound .result) _ (c .before .before .before .before .refusal-of-sound .ensures) _ _ _ (sym (c .before .before .before .is-done .ensures) ∙ not-false _ (c .before .before .if1 .left)) (c .answers2 .ensures ∙ sample-none (a .self) (a .ram .now) (a .queues .now) (a .ch) (c .before .if2 .taken)), refl)
+
+slice-aggregate-run : tie.Need-slice-aggregate-run
+slice-aggregate-run c = search needs
+
+run-requires : tie.Need-run-requires
+run-requires c κs = search needs
+
+with-core-requires : tie.Need-with-core-requires
+with-core-requires c κs = search needs
+
+same-length : tie.Need-same-length
+same-length c = search needs
+
+returns-3 : tie.Need-returns-3
+unfolding generateSampleCalled
+returns-3 c =
+    let a = c .before .before .before .before .before .before .before .before .before .before .before .args in
+    let f : SFits w16 (c .before .before .before .run .result .sample) = record { sfits = c .before .struct-told .given .1 .0 .1 } in
+    let t = all-there _ _ _ _ (c .before .before .before .before .before .before .before .before .before .refusal-of-sound .result) (c .before .before .before .before .before .before .before .before .before .refusal-of-sound .ensures) (sym (c .before .before .before .before .before .before .before .before .is-done .ensures) ∙ not-false _ (c .before .before .before .before .before .before .before .if1 .left)) in
+    (goes-called (c .before .before .before .before .before .before .before .before .before .refusal-of-sound .result) _ (c .before .before .before .before .before .before .before .before .before .refusal-of-sound .ensures) _ _ _ (sym (c .before .before .before .before .before .before .before .before .is-done .ensures) ∙ not-false _ (c .before .before .before .before .before .before .before .if1 .left)) (c .with-core .ensures ∙ ap (λ (x : ℤ). answered (withCore (a .self) (c .before .before .before .run .result .core)) (Sample x)) (back w16 (c .before .before .before .run .result .sample) f) ∙ sample-some (a .self) (a .ram .now) (a .queues .now) (a .ch) (c .before .before .before .run .result .core) (c .before .before .before .run .result .sample) (c .before .before .before .before .before .before .if2 .left) (t .lent) (t .accepted) (c .before .before .before .run .ensures .0)), refl)
+
+pub generate-sample-spec : {M : Type 1} → statement M
+generate-sample-spec =
+    tie.close
+    (tie.spec
+    refusal-of-sound-requires
+    is-done-requires
+    answers-requires
+    returns
+    answers-requires-2
+    returns-2
+    slice-aggregate-run
+    run-requires
+    with-core-requires
+    same-length
+    returns-3)

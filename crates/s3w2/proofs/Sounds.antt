@@ -1,0 +1,35 @@
+-- A tick of one voice, from what the turns say. Assumes nothing.
+use mathlib.Core.Path.{_≡_, refl, sym, ap, _∙_}
+use mathlib.Core.Bool.{Bool, true, cond}
+use mathlib.Core.List.{List}
+use Prim.Native.Nat.{ℕ, _≤_, _<_}
+use native.Mathlib.Omega.{arith}
+use lib.Dec.{eqb, ltb}
+use lib.IntN.{ℤ, pos}
+use lib.ListN.{length}
+use borrow.Author.Tests.{lt-ltb, le-ltb}
+use Rattle.voices.specs.declared.Core.{Core}
+use Rattle.voices.specs.Accepted.{acceptsCore}
+use Rattle.frames.specs.Turning.{Turns, turned, runOf, afterTurns}
+use Rattle.frames.specs.declared.Turned.{Turned}
+use Rattle.s3w2.specs.declared.Chip.{Chip}
+use Rattle.s3w2.specs.declared.Called.{Called}
+use Rattle.s3w2.specs.declared.Answer.the-variants.{Sample}
+use Rattle.s3w2.specs.Answers.{answered}
+use Rattle.s3w2.specs.Chips.{withCore}
+use Rattle.s3w2.specs.Sound.{ticked}
+use Rattle.s3w2.proofs.Framing.{run-open}
+
+module _ (chip : Chip) (ram : List ℕ) (queues : List ℤ) (ch : ℕ) where
+  abbrev given : Called
+  given = answered (withCore chip (ticked chip ram queues ch .core)) (Sample (ticked chip ram queues ch .sample))
+
+  pub sample-none : 7 < ch → answered chip (Sample (pos 0)) ≡ cond (ltb ch 8) given (answered chip (Sample (pos 0)))
+  sample-none h = sym (ap (λ (t : Bool). cond t given (answered chip (Sample (pos 0)))) (le-ltb ch 8 h))
+
+  pub sample-some : (core : Core) (sample : ℤ) → ch ≤ 7 → eqb (length queues) 16384 ≡ true → acceptsCore (chip .core) (chip .version) (length ram) ≡ true
+      → record { core = core; sample = sample } ≡ afterTurns (runOf (chip .version) ram queues ch 1 1 (chip .core))
+      → answered (withCore chip core) (Sample sample) ≡ cond (ltb ch 8) given (answered chip (Sample (pos 0)))
+  sample-some core sample h q a e =
+      let r : _≡_ {A = Turned} (record { core = core; sample = sample }) (afterTurns (ticked chip ram queues ch)) = e ∙ ap afterTurns (run-open (chip .version) ram queues ch 1 1 (chip .core) q refl refl a) in
+      ap (λ (t : Turned). answered (withCore chip (t .core)) (Sample (t .sample))) r ∙ sym (ap (λ (t : Bool). cond t given (answered chip (Sample (pos 0)))) (lt-ltb ch 8 (omega arith)))

@@ -1,0 +1,56 @@
+use borrow.Author.Needs.{needs}
+use mathlib.Core.Path.{ap}
+use Prim.Native.Nat.{_/_}
+use lib.ListN.{length}
+use Rattle.sides.specs.Sides.{saturating}
+use Rattle.frames.specs.Turning.{runOf}
+use Rattle.frames.specs.declared.Turned.{Turned}
+use Rattle.s3w2.proofs.Mixes.{heard-from}
+use Rattle.s3w2.proofs.mixing.add_frames.Statement.{statement}
+use Rattle.s3w2.proofs.mixing.add_frames.Tie as tie
+use Rattle.s3w2.proofs.mixing.add_frames.Reads as reads
+use Rattle.s3w2.proofs.mixing.add_frames.Lts as lts
+use Rattle.frames.proofs.run.Reads as run-reads
+use Rattle.sides.proofs.add.Reads as add-reads
+
+-- src/mixing.rt:40:9
+run-requires : tie.Need-run-requires
+run-requires c κs = search needs
+
+-- src/mixing.rt:41:5
+add-requires : tie.Need-add-requires
+add-requires c κs = search needs
+
+-- src/mixing.rt:25:1
+same-length : tie.Need-same-length
+same-length c = search needs
+
+-- src/mixing.rt:25:1
+same-length-2 : tie.Need-same-length-2
+same-length-2 c = search needs
+
+-- src/mixing.rt:25:1
+same-length-3 : tie.Need-same-length-3
+same-length-3 c = search needs
+
+-- src/mixing.rt:25:1
+returns : tie.Need-returns
+returns c =
+    let a = c .before .before .before .before .before .before .before .before .before .before .before .args in
+    let r = c .before .before .before .before .before .before .before .before .run in
+    let d = c .before .before .before .add in
+    let R = runOf (a .version) (a .ram .now) (a .queues .now) 0 4 (length (a .stems .now) / 2) (a .core) in
+    let out = c .before .before .before .before .before .before .before .before .run .last .1 .1 .1 .1 .1 .1 .0 in (
+      ap (λ (t : Turned). t .core) (r .ensures .0),
+      (
+        heard-from saturating 0 (a .stems .now) out (a .left .now) (d .last .1 .0) R (length (a .left .now)) (length (a .right .now)) (a .first) (r .ensures .1 .0) (d .ensures .0),
+        (
+          heard-from saturating 1 (a .stems .now) out (a .right .now) (d .last .1 .1 .0) R (length (a .left .now)) (length (a .right .now)) (a .first) (r .ensures .1 .0) (d .ensures .1),
+          r .ensures .1 .1,
+        ),
+      ),
+    )
+
+pub add-frames-spec : {M : Type 1} → statement M
+add-frames-spec =
+    tie.close (tie.spec run-requires add-requires same-length same-length-2 same-length-3 returns)

@@ -1,0 +1,57 @@
+use borrow.Author.Needs.{needs}
+use mathlib.Core.Path.{ap}
+use Prim.Native.Nat.{_/_}
+use lib.ListN.{length}
+use Rattle.sides.specs.Sides.{wrapping}
+use Rattle.frames.specs.Turning.{runOf}
+use Rattle.frames.specs.declared.Turned.{Turned}
+use Rattle.s3w2.proofs.Mixes.{heard-from}
+use Rattle.s3w2.proofs.mixing.add_frames_i32.Statement.{statement}
+use Rattle.s3w2.proofs.mixing.add_frames_i32.Tie as tie
+use Rattle.s3w2.proofs.mixing.add_frames_i32.Reads as reads
+use Rattle.s3w2.proofs.mixing.add_frames_i32.Lts as lts
+use Rattle.frames.proofs.run.Reads as run-reads
+use Rattle.sides.proofs.add_i32.Reads as add-i32-reads
+
+-- src/mixing.rt:60:9
+run-requires : tie.Need-run-requires
+run-requires c κs = search needs
+
+-- src/mixing.rt:61:5
+add-i32-requires : tie.Need-add-i32-requires
+add-i32-requires c κs = search needs
+
+-- src/mixing.rt:45:1
+same-length : tie.Need-same-length
+same-length c = search needs
+
+-- src/mixing.rt:45:1
+same-length-2 : tie.Need-same-length-2
+same-length-2 c = search needs
+
+-- src/mixing.rt:45:1
+same-length-3 : tie.Need-same-length-3
+same-length-3 c = search needs
+
+-- src/mixing.rt:45:1
+returns : tie.Need-returns
+returns c =
+    let a = c .before .before .before .before .before .before .before .before .before .before .before .args in
+    let r = c .before .before .before .before .before .before .before .before .run in
+    let d = c .before .before .before .add-i32 in
+    let R = runOf (a .version) (a .ram .now) (a .queues .now) 0 4 (length (a .stems .now) / 2) (a .core) in
+    let out = c .before .before .before .before .before .before .before .before .run .last .1 .1 .1 .1 .1 .1 .0 in (
+      ap (λ (t : Turned). t .core) (r .ensures .0),
+      (
+        heard-from wrapping 0 (a .stems .now) out (a .left .now) (d .last .1 .0) R (length (a .left .now)) (length (a .right .now)) (a .first) (r .ensures .1 .0) (d .ensures .0),
+        (
+          heard-from wrapping 1 (a .stems .now) out (a .right .now) (d .last .1 .1 .0) R (length (a .left .now)) (length (a .right .now)) (a .first) (r .ensures .1 .0) (d .ensures .1),
+          r .ensures .1 .1,
+        ),
+      ),
+    )
+
+pub add-frames-i32-spec : {M : Type 1} → statement M
+add-frames-i32-spec =
+    tie.close
+    (tie.spec run-requires add-i32-requires same-length same-length-2 same-length-3 returns)

@@ -1,0 +1,43 @@
+// One voice's tick, and frames of stems.
+ghost use mathlib.Core.Path.{_≡_};
+ghost use lib.ListN.{length};
+ghost use Rattle.s3w2.specs.Sound.{generateSampleCalled, clockCalled, clockStems};
+use crate::Answer;
+use crate::Called;
+use crate::Chip;
+use crate::refusals::is_done;
+
+impl Chip {
+    // A tick of one voice; a channel above 7 gives 0.
+    pub fn generate_sample(self, ram: &[u8], queues: &mut [i16], ch: usize) -> Called
+        ensures { λ r. ⌜ r ≡ generateSampleCalled self (now (ram .entry)) (now (queues .entry)) ch ⌝ }
+        ensures { λ _. ⌜ now (queues .exit) ≡ now (queues .entry) ⌝ }
+    {
+        let refusal = self.refusal_of_sound(ram.len(), queues.len());
+        if !is_done(refusal) {
+            return self.answers(refusal);
+        }
+        if 7 < ch {
+            return self.answers(Answer::Sample(0));
+        }
+        let version = self.version;
+        let mut stems = [0i16; 2];
+        let next = frames::run(self.core, version, ram, &*queues, ch, 1, &mut stems);
+        self.with_core(next.core, Answer::Sample(next.sample))
+    }
+
+    // Stems: 16 a frame, channel 0 left, channel 0 right, channel 1 left and so on.
+    pub fn clock(self, ram: &[u8], queues: &mut [i16], frames: usize, stems: &mut [i16]) -> Called
+        ensures { λ r. ⌜ r ≡ clockCalled self (now (ram .entry)) (now (queues .entry)) frames (length (now (stems .entry))) ⌝ }
+        ensures { λ _. ⌜ now (queues .exit) ≡ now (queues .entry) ⌝ }
+        ensures { λ _. ⌜ now (stems .exit) ≡ clockStems self (now (ram .entry)) (now (queues .entry)) frames (now (stems .entry)) ⌝ }
+    {
+        let refusal = self.refusal_of_clock(ram.len(), queues.len(), frames, stems.len());
+        if !is_done(refusal) {
+            return self.answers(refusal);
+        }
+        let version = self.version;
+        let next = frames::run(self.core, version, ram, &*queues, 0, 4, stems);
+        self.with_core(next.core, Answer::Done)
+    }
+}

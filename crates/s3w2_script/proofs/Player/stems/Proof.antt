@@ -1,0 +1,46 @@
+use mathlib.Core.Path.{sym}
+use lib.Seq.{length-take-le}
+use borrow.Author.Needs.{needs}
+use Rattle.s3w2_script.proofs.Player.stems.Statement.{statement}
+use Rattle.s3w2_script.proofs.Player.stems.Tie as tie
+
+size-requires : tie.Need-size-requires
+size-requires c κs = search needs
+
+least-requires : tie.Need-least-requires
+least-requires c κs = search needs
+
+size-requires-2 : tie.Need-size-requires-2
+size-requires-2 c κs = search needs
+
+array-borrow-prefix-stems : tie.Need-array-borrow-prefix-stems
+array-borrow-prefix-stems c = search needs
+
+slice-aggregate-stems-over : tie.Need-slice-aggregate-stems-over
+slice-aggregate-stems-over c = sym (length-take-le _ _ (search needs))
+
+stems-over-requires : tie.Need-stems-over-requires
+stems-over-requires c κs = search needs
+
+same-length : tie.Need-same-length
+same-length c = search needs
+
+same-length-2 : tie.Need-same-length-2
+same-length-2 c = search needs
+
+returns : tie.Need-returns
+returns c = search needs
+
+pub stems-spec : {M : Type 1} → statement M
+stems-spec =
+    tie.close
+    (tie.spec
+    size-requires
+    least-requires
+    size-requires-2
+    array-borrow-prefix-stems
+    slice-aggregate-stems-over
+    stems-over-requires
+    same-length
+    same-length-2
+    returns)

@@ -1,0 +1,62 @@
+use mathlib.Core.Path.{sym}
+use lib.Seq.{length-take-le}
+use borrow.Author.Needs.{needs}
+use Rattle.s3w2_script.proofs.Player.wide_sides.Statement.{statement}
+use Rattle.s3w2_script.proofs.Player.wide_sides.Tie as tie
+
+size-requires : tie.Need-size-requires
+size-requires c κs = search needs
+
+least-requires : tie.Need-least-requires
+least-requires c κs = search needs
+
+size-requires-2 : tie.Need-size-requires-2
+size-requires-2 c κs = search needs
+
+least-requires-2 : tie.Need-least-requires-2
+least-requires-2 c κs = search needs
+
+long-requires : tie.Need-long-requires
+long-requires c κs = search needs
+
+array-borrow-prefix-left : tie.Need-array-borrow-prefix-left
+array-borrow-prefix-left c = search needs
+
+slice-aggregate-wide-sides-over : tie.Need-slice-aggregate-wide-sides-over
+slice-aggregate-wide-sides-over c = sym (length-take-le _ _ (search needs))
+
+array-borrow-prefix-right : tie.Need-array-borrow-prefix-right
+array-borrow-prefix-right c = search needs
+
+slice-aggregate-wide-sides-over-2 : tie.Need-slice-aggregate-wide-sides-over-2
+slice-aggregate-wide-sides-over-2 c = sym (length-take-le _ _ (search needs))
+
+wide-sides-over-requires : tie.Need-wide-sides-over-requires
+wide-sides-over-requires c κs = search needs
+
+same-length : tie.Need-same-length
+same-length c = search needs
+
+same-length-2 : tie.Need-same-length-2
+same-length-2 c = search needs
+
+returns : tie.Need-returns
+returns c = search needs
+
+pub wide-sides-spec : {M : Type 1} → statement M
+wide-sides-spec =
+    tie.close
+    (tie.spec
+    size-requires
+    least-requires
+    size-requires-2
+    least-requires-2
+    long-requires
+    array-borrow-prefix-left
+    slice-aggregate-wide-sides-over
+    array-borrow-prefix-right
+    slice-aggregate-wide-sides-over-2
+    wide-sides-over-requires
+    same-length
+    same-length-2
+    returns)

@@ -1,0 +1,85 @@
+use lib.Seq.{length-take-le}
+use mathlib.Core.Path.{_≡_, sym}
+use Prim.Native.Nat.{_≤_, _-_}
+use native.Mathlib.Omega.{arith}
+use lib.ListN.{length}
+use borrow.Author.Needs.{needs}
+use Rattle.s3w2_script.proofs.calls.named.Statement.{statement}
+use Rattle.s3w2_script.proofs.calls.named.Tie as tie
+
+abbrev Inv-loop : tie.InvT-loop
+Inv-loop f count name₀ n i₀ name i = (n ≤ 64) × (length name ≡ 64)
+
+abbrev μ-loop : tie.MeasureT-loop
+μ-loop f count name₀ n i₀ name i = n - i
+
+least-requires : tie.Need-least-requires Inv-loop μ-loop
+least-requires c κs = search needs
+
+loop-holds : tie.Need-loop-holds Inv-loop μ-loop
+loop-holds c = search needs
+
+byte-requires : tie.Need-byte-requires Inv-loop μ-loop
+byte-requires c κs = search needs
+
+array-write-name : tie.Need-array-write-name Inv-loop μ-loop
+array-write-name c = search needs
+
+add-i : tie.Need-add-i Inv-loop μ-loop
+add-i c = search needs
+
+loop-less : tie.Need-loop-less Inv-loop μ-loop
+loop-less c = search needs
+
+loop-again : tie.Need-loop-again Inv-loop μ-loop
+loop-again c = search needs
+
+array-share-prefix-name : tie.Need-array-share-prefix-name Inv-loop μ-loop
+array-share-prefix-name c = search needs
+
+slice-aggregate-parse : tie.Need-slice-aggregate-parse Inv-loop μ-loop
+slice-aggregate-parse c = sym (length-take-le _ _ (omega arith))
+
+parse-requires : tie.Need-parse-requires Inv-loop μ-loop
+parse-requires c κs = search needs
+
+enum-known-parsed : tie.Need-enum-known-parsed Inv-loop μ-loop
+enum-known-parsed c = search needs
+
+enum-told : tie.Need-enum-told Inv-loop μ-loop
+enum-told c = search needs
+
+returns : tie.Need-returns Inv-loop μ-loop
+returns c = search needs
+
+number-requires : tie.Need-number-requires Inv-loop μ-loop
+number-requires c κs = search needs
+
+cast-result : tie.Need-cast-result Inv-loop μ-loop
+cast-result c = search needs
+
+returns-2 : tie.Need-returns-2 Inv-loop μ-loop
+returns-2 c = search needs
+
+pub named-spec : {M : Type 1} → statement M
+named-spec =
+    tie.close
+    (tie.spec
+    Inv-loop
+    μ-loop
+    least-requires
+    loop-holds
+    byte-requires
+    array-write-name
+    add-i
+    loop-less
+    loop-again
+    array-share-prefix-name
+    slice-aggregate-parse
+    parse-requires
+    enum-known-parsed
+    enum-told
+    returns
+    number-requires
+    cast-result
+    returns-2)

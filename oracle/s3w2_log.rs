@@ -1,0 +1,70 @@
+// Document 01's log program, played on the original chip: reads a log from standard input, prints what `s3w2-log` prints.
+mod sgu {
+    pub mod s3w2;
+    pub mod sqv4;
+}
+use sgu::s3w2::*;
+use std::io::{BufWriter, Read, Write};
+
+/// A plain decimal numeral of at most `most`, without leading zeros.
+fn number(field: &[u8], most: u32) -> Option<u32> {
+    let fine = !field.is_empty() && field.iter().all(u8::is_ascii_digit) && (field.len() == 1 || field[0] != b'0');
+    let text = std::str::from_utf8(field).ok().filter(|_| fine)?;
+    text.parse().ok().filter(|&n| n <= most)
+}
+
+struct Player {
+    chip: S3w2Sound,
+    peak: (i32, i32),
+}
+
+impl Player {
+    fn clock(&mut self, frames: u32, out: &mut impl Write) {
+        let (left, right) = self.chip.clock_mixed(frames as usize);
+        for (&l, &r) in left.iter().zip(&right) {
+            writeln!(out, "F,{l},{r}").unwrap();
+            self.peak.0 = self.peak.0.max(i32::from(l).abs());
+            self.peak.1 = self.peak.1.max(i32::from(r).abs());
+        }
+    }
+
+    /// Plays a line without its closing byte 10; none is a malformed one.
+    fn play(&mut self, line: &[u8], out: &mut impl Write) -> Option<()> {
+        let fields: Vec<&[u8]> = line.split(|&b| b == b',').collect();
+        match *fields.as_slice() {
+            [b"W", a, v] => self.chip.write_register(number(a, u32::MAX)?, number(v, 255)? as u8),
+            [b"M", a, v] => self.chip.write_pcm_ram(number(a, u32::MAX)?, number(v, 255)? as u8),
+            [b"R", a] => {
+                let a = number(a, u32::MAX)?;
+                writeln!(out, "R,{a},{}", self.chip.read_register(a)).unwrap();
+            }
+            [b"P", a] => {
+                let a = number(a, u32::MAX)?;
+                writeln!(out, "P,{a},{}", self.chip.peek_register(a)).unwrap();
+            }
+            [b"C", n] => self.clock(number(n, 1000).filter(|&n| n > 0)?, out),
+            [b"V", v] => {
+                let versions = [SguVersion::V1, SguVersion::V2, SguVersion::V2_1, SguVersion::V3, SguVersion::V3_1];
+                self.chip.set_version(versions[number(v, 4)? as usize]);
+            }
+            _ => return None,
+        }
+        Some(())
+    }
+}
+
+fn main() {
+    let mut text = Vec::new();
+    std::io::stdin().read_to_end(&mut text).unwrap();
+    let mut out = BufWriter::new(std::io::stdout().lock());
+    let ram = std::rc::Rc::new(std::cell::RefCell::new(vec![0; PCM_RAM_SIZE]));
+    let mut player = Player { chip: S3w2Sound::with_version(ram, SguVersion::V3_1), peak: (0, 0) };
+    for (k, line) in text.split_inclusive(|&b| b == 10).enumerate() {
+        let played = line.strip_suffix(b"\n").and_then(|line| player.play(line, &mut out));
+        if played.is_none() {
+            writeln!(out, "bad,{},17", k + 1).unwrap();
+            return;
+        }
+    }
+    writeln!(out, "peak,{},{}", player.peak.0, player.peak.1).unwrap();
+}
