@@ -44,7 +44,7 @@ pub width-more : (n : ℕ) → 10 ≤ n → length (decimal n) ≡ length (decim
 width-more n h = rw (decimal-more n h) (length-append (decimal (n / 10)) ((48 + n % 10) ∷ []))
 
 -- as many digits as a power of ten has zeros hold each number below it
-width-below : (k n : ℕ) → n < 10 ^ suc k → length (decimal n) ≤ suc k
+pub width-below : (k n : ℕ) → n < 10 ^ suc k → length (decimal n) ≤ suc k
 width-below zero n h = omega (arith, width-small n (omega arith))
 width-below (suc k) n h = elim (decLe 10 n) [ yes l ↦ omega (arith, width-more n l, width-below k (n / 10) (omega (arith, pow-suc 10 (suc k)))) | no l ↦ omega (arith, width-small n (omega arith)) ]
 

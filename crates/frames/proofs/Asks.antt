@@ -1,9 +1,8 @@
 -- What turns ask for, test by test. Assumes nothing.
-use mathlib.Core.Path.{_≡_, refl, sym, ap, _∙_}
-use mathlib.Core.Bool.{Bool, true, false, cond, _&&_}
+use mathlib.Core.Path.{_≡_, refl}
+use mathlib.Core.Bool.{true, false}
 use mathlib.Core.List.{List}
 use Prim.Native.Nat.{ℕ, _≤_, _<_}
-use native.Mathlib.Omega.{arith}
 use lib.Dec.{eqb, leb}
 use lib.ListN.{length}
 use lib.IntN.{ℤ}
@@ -13,7 +12,7 @@ use Rattle.version.specs.declared.SguVersion.{SguVersion}
 use Rattle.voice.proofs.Tests.{fails, passes, first-arm, second-arm}
 use Rattle.voices.specs.Accepted.{acceptsCore}
 use Rattle.voices.specs.declared.Core.{Core}
-use Rattle.frames.specs.Turning.{Turns, noTurn, turned, mayRun, runOf}
+use Rattle.frames.specs.Turning.{noTurn, turned, mayRun, runOf}
 
 module _ (version : SguVersion) (ram : List ℕ) (queues : List ℤ) (n : ℕ) (core : Core) where
   pub no-queues : (length queues ≡ 16384 → ⊥) → false ≡ mayRun version ram queues n core

@@ -10,7 +10,7 @@ use Rattle.version.specs.declared.SguVersion.{SguVersion}
 use Rattle.ticks.specs.Mix.{silence}
 use Rattle.voices.specs.declared.Core.{Core}
 use Rattle.frames.specs.Ticking.{Voiced, voiced, voiceTicks}
-use Rattle.frames.specs.Turning.{Turns, oneTurn, turned, frame, frames}
+use Rattle.frames.specs.Turning.{Turns, oneTurn, turned, frames}
 use Rattle.frames.proofs.Loop.{done-long}
 
 -- some turns, and some after them

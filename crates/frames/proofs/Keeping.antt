@@ -1,13 +1,12 @@
 -- A voice's ticks from silence on keep its channel accepted and in range, and the sides are sums of as many ticks. Assumes nothing.
-use mathlib.Core.Path.{_≡_, refl, sym, ap, _∙_, subst}
-use mathlib.Core.Bool.{Bool, true, false, cond, _&&_}
+use mathlib.Core.Path.{_≡_, refl, sym, _∙_, subst}
+use mathlib.Core.Bool.{Bool, true, false}
 use mathlib.Core.List.{List}
-use Prim.Native.Nat.{ℕ, zero, suc, _+_, _*_, _≤_, _<_, _^_}
+use Prim.Native.Nat.{ℕ, zero, suc, _+_, _≤_, _<_, _^_}
 use native.Mathlib.Nat as N
 use native.Mathlib.Omega.{arith}
-use lib.Dec.{eqb}
-use lib.ListN.{length, getD}
-use lib.IntN.{ℤ, pos}
+use lib.ListN.{length}
+use lib.IntN.{ℤ}
 use mir.Syntax.{w16}
 use mir.Val.{SFits}
 use Rattle.num.specs.Lists.{part}
@@ -20,19 +19,16 @@ use Rattle.version.specs.declared.SguVersion.{SguVersion}
 use Rattle.registers.specs.Queue.{AcceptedFifo, FitFifo, FitEntries}
 use Rattle.registers.proofs.Accepted.{tick-accepted}
 use Rattle.registers.specs.Waveforms.{isSqv4}
-use Rattle.registers.specs.declared.WaveformType.{WaveformType}
-use Rattle.registers.specs.declared.WaveformType.the-variants as waveforms
 use Rattle.stream.specs.Accepted.{acceptsCache}
 use Rattle.stream.specs.Cache.{Stock, stock}
-use Rattle.stream.specs.Tick.{Given, Found, absent, unheard, present, planOf, playedBy, tickOf, cachedFound, cachedTick}
-use Rattle.stream.specs.declared.Info.{Info}
+use Rattle.stream.specs.Tick.{Found, absent, unheard, present, planOf, playedBy, tickOf, cachedFound, cachedTick}
 use Rattle.stream.specs.declared.Plan.{Plan}
 use Rattle.stream.specs.declared.Plan.the-variants.{Stop, Sample}
 use Rattle.stream.specs.declared.Play.{Play}
 use Rattle.stream.proofs.Keeps.{tick-keeps}
 use Rattle.ticks.specs.Again.{again}
-use Rattle.ticks.specs.Mix.{silence, heard, Room}
-use Rattle.ticks.specs.Oscillators.{FitOscillator, acceptsOscillator}
+use Rattle.ticks.specs.Mix.{silence, Room}
+use Rattle.ticks.specs.Oscillators.{acceptsOscillator}
 use Rattle.ticks.specs.Queues.{queueTick, queueTicks}
 use Rattle.ticks.specs.Settings.{settingOf}
 use Rattle.ticks.specs.Sounds.{soundTicks}
@@ -40,7 +36,7 @@ use Rattle.ticks.specs.declared.QueueSound.{QueueSound}
 use Rattle.ticks.specs.declared.Sides.{Sides}
 use Rattle.ticks.specs.declared.Target.{Target}
 use Rattle.ticks.proofs.Ranges.{accepted-oscillator, oscillator-accepted}
-use Rattle.ticks.proofs.Sums.{room-none, heard-room, begins, Steady, sound-steady, SteadyQueue, queue-steady}
+use Rattle.ticks.proofs.Sums.{room-none, heard-room, begins, sound-steady, queue-steady}
 use Rattle.voice.specs.Accepted.{acceptsStream, AcceptedChannel}
 use Rattle.voice.specs.Sounding.{playOf, soundOf, afterSound, queueSoundOf, afterQueue, servedOf, streamSoundOf, afterStream}
 use Rattle.voice.specs.Streaming.{Lent, lent, streamTick, streamTicks, streamTicksAt}

@@ -1,8 +1,8 @@
 -- Turns one after another: where the loop stands before the next one. Assumes nothing.
-use mathlib.Core.Path.{_≡_, refl, sym, ap, _∙_, subst}
+use mathlib.Core.Path.{_≡_, refl, sym, ap, _∙_}
 use mathlib.Core.Bool.{true}
 use mathlib.Core.List.{List, [], _∷_, _++_}
-use Prim.Native.Nat.{ℕ, zero, suc, _+_, _*_, _%_, _≤_, _<_}
+use Prim.Native.Nat.{ℕ, zero, suc, _+_, _*_, _%_}
 use native.Mathlib.Omega.{arith}
 use native.Mathlib.Nat.{add-zero}
 use native.Mathlib.Numerals.{add-one}
@@ -16,7 +16,7 @@ use Rattle.voices.specs.Accepted.{SizedCore, acceptsCore}
 use Rattle.voices.specs.declared.Core.{Core}
 use Rattle.voices.proofs.Accepting.{accepted-core}
 use Rattle.frames.specs.Kept.{Bytes}
-use Rattle.frames.specs.Ticking.{Voiced, voiced, voiceTicks}
+use Rattle.frames.specs.Ticking.{voiced, voiceTicks}
 use Rattle.frames.specs.Turning.{Turns, oneTurn, turned, afterTurns}
 use Rattle.frames.specs.declared.Turned.{Turned}
 use Rattle.frames.proofs.Turns.{Ready, Turn}

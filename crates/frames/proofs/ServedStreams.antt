@@ -1,6 +1,6 @@
 -- Ticks that the cache serves are ticks of the stream, and those that are not served follow them. Assumes nothing.
 use mathlib.Core.Path.{_≡_, sym, ap, _∙_, subst}
-use mathlib.Core.Bool.{true, cond}
+use mathlib.Core.Bool.{true}
 use mathlib.Core.List.{List}
 use Prim.Native.Nat.{ℕ, zero, suc, _+_, _-_, _≤_, _<_, _%_, _^_}
 use native.Mathlib.Omega.{arith}

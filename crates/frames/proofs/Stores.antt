@@ -3,10 +3,9 @@ use mathlib.Core.Path.{_≡_, refl, sym, ap, _∙_}
 use mathlib.Core.Bool.{Bool, true, false, cond}
 use mathlib.Core.List.{List}
 use Prim.Native.Nat.{ℕ, zero, suc, _+_, _*_, _≤_, _<_}
-use native.Mathlib.Nat as N
 use native.Mathlib.Omega.{arith}
 use lib.Dec.{eqb}
-use lib.ListN.{length, set, getD}
+use lib.ListN.{length}
 use lib.Seq.{set-set, getD-set-same, getD-set-other}
 use lib.IntN.{ℤ, pos}
 use borrow.Author.Tests.{eqb-true, eqb-false}
@@ -22,8 +21,7 @@ use Rattle.ticks.specs.Mix.{soundAfter}
 use Rattle.ticks.specs.Oscillators.{targetFrom}
 use Rattle.ticks.specs.Pcm.{pcmTick}
 use Rattle.ticks.specs.Queues.{queueTicks}
-use Rattle.ticks.specs.Sounds.{Tick, targetFor, soundTick, ticksOf, noiseOf, dmaOf, soundTicks}
-use Rattle.ticks.specs.Wavetable.{wavetableTick}
+use Rattle.ticks.specs.Sounds.{Tick, targetFor, ticksOf, noiseOf, dmaOf, soundTicks}
 use Rattle.ticks.specs.declared.Oscillator.{Oscillator}
 use Rattle.ticks.specs.declared.Setting.{Setting}
 use Rattle.ticks.specs.declared.Sides.{Sides}
@@ -34,9 +32,9 @@ use Rattle.voice.specs.Streaming.{Lent, lent}
 use Rattle.voice.specs.declared.Channel.{Channel}
 use Rattle.voice.specs.declared.Kind.{Kind}
 use Rattle.voice.specs.declared.Kind.the-variants as kinds
-use Rattle.voices.specs.Core.{noChannel, channelAt, setChannel, setFragments}
+use Rattle.voices.specs.Core.{noChannel, channelAt, setChannel}
 use Rattle.voices.specs.declared.Core.{Core}
-use Rattle.frames.specs.Ticking.{Voiced, voiced, target, seen, soundFrom, queueFrom, streamFrom, soundStored, queueStored, streamStored, ticksAs, voiceTick, voiceTicks}
+use Rattle.frames.specs.Ticking.{Voiced, voiced, target, soundFrom, queueFrom, streamFrom, soundStored, streamStored, ticksAs, voiceTick, voiceTicks}
 use Rattle.frames.proofs.StreamRuns.{over, goes-on}
 
 twice : {A : Type 0} (b : Bool) (v x y : A) (f : A → A) → f x ≡ y → cond b (cond b v x) (f (cond b v x)) ≡ cond b v y

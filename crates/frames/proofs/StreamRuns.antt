@@ -1,9 +1,8 @@
 -- A stream's ticks keep the count of its samples; one tick more, taken out of the array and put back. Assumes nothing.
-use mathlib.Core.Path.{_≡_, refl, sym, ap, _∙_, subst}
-use mathlib.Core.Bool.{Bool, true, false, cond}
+use mathlib.Core.Path.{_≡_, refl, sym, ap, _∙_}
+use mathlib.Core.Bool.{Bool, true, false}
 use mathlib.Core.List.{List}
 use Prim.Native.Nat.{ℕ, zero, suc, _+_, _≤_}
-use native.Mathlib.Omega.{arith}
 use lib.Dec.{leb, eqb}
 use lib.ListN.{length}
 use lib.Seq.{sets, length-sets}
@@ -13,7 +12,7 @@ use Rattle.num.specs.Lists.{part}
 use Rattle.num.proofs.Choice.{cond-by}
 use Rattle.stream.specs.Cache.{Stock, stock}
 use Rattle.stream.specs.Accepted.{acceptsCache}
-use Rattle.stream.specs.Tick.{Ticked, unheard, tickOf, cachedTick}
+use Rattle.stream.specs.Tick.{Ticked, unheard, cachedTick}
 use Rattle.stream.specs.declared.Play.{Play}
 use Rattle.stream.proofs.Accepts.{accepts-free}
 use Rattle.stream.proofs.Founds.{found-short, found-odd, tick-by}

@@ -5,7 +5,7 @@ use mathlib.Core.List.{List}
 use Prim.Native.Nat.{ℕ, zero, suc, _+_, _-_, _*_, _≤_, _<_, _^_}
 use native.Mathlib.Omega.{arith}
 use lib.Dec.{eqb}
-use lib.ListN.{length, set, length-set}
+use lib.ListN.{length, length-set}
 use lib.Seq.{getD-set-same, getD-set-other}
 use lib.IntN.{ℤ}
 use borrow.Author.Tests.{eqb-true, eqb-false}
@@ -38,7 +38,7 @@ use Rattle.voice.specs.declared.Kind.{Kind}
 use Rattle.voice.specs.declared.Kind.the-variants as kinds
 use Rattle.voice.specs.declared.Served.{Served}
 use Rattle.voice.specs.declared.StreamSound.{StreamSound}
-use Rattle.voices.specs.Accepted.{SizedCore, AcceptedCore}
+use Rattle.voices.specs.Accepted.{AcceptedCore}
 use Rattle.voices.specs.Core.{noChannel, channelAt, setChannel, setFragments}
 use Rattle.voices.specs.declared.Core.{Core}
 use Rattle.frames.specs.Kept.{Bytes, FitChannel, Kept, Keeps, KeepsAny}

@@ -5,9 +5,9 @@ use mathlib.Core.List.{List}
 use Prim.Native.Nat.{ℕ, zero, suc, _+_, _*_, _%_, _≤_, _<_}
 use native.Mathlib.Omega.{arith}
 use lib.Dec.{eqb}
-use lib.ListN.{length, getD}
+use lib.ListN.{length}
 use lib.Seq.{getD-set-same, getD-set-other}
-use lib.IntN.{ℤ, pos}
+use lib.IntN.{ℤ}
 use borrow.Author.Tests.{eqb-true, eqb-false}
 use Rattle.num.specs.Lists.{part}
 use Rattle.version.specs.declared.SguVersion.{SguVersion}
@@ -22,10 +22,9 @@ use Rattle.voice.specs.declared.Kind.{Kind}
 use Rattle.voice.specs.declared.Kind.the-variants as kinds
 use Rattle.voices.specs.Core.{noChannel, channelAt, setChannel, setFragments}
 use Rattle.voices.specs.declared.Core.{Core}
-use Rattle.frames.specs.Kept.{Bytes, FitChannel, Kept}
+use Rattle.frames.specs.Kept.{Bytes, FitChannel}
 use Rattle.frames.specs.Ticking.{Voiced, voiced, voiceTicks}
 use Rattle.frames.specs.Turning.{turned, frames}
-use Rattle.frames.proofs.Framing.{frames-turns}
 use Rattle.frames.proofs.Keeping.{sound-kept, queue-kept-from}
 use Rattle.frames.proofs.Turns.{Ready, Turn, silent-turn, sound-turn, queue-turn, whole-kept, whole-turn}
 

@@ -1,1 +1,3 @@
 pub mod Commas
+pub mod Texts
+pub mod Long

@@ -1,7 +1,14 @@
 // A log: what a line asks for.
 mod parsing;
+mod text;
 
 pub use parsing::parse;
+pub use text::peak;
+pub use text::put_bad;
+pub use text::put_frames;
+pub use text::put_peak;
+pub use text::put_peek;
+pub use text::put_read;
 
 // A line of a log. An address is a register's, or a byte's in RAM.
 pub enum Line {

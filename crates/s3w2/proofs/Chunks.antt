@@ -7,11 +7,10 @@ use lib.IntN.{ℤ, pos}
 use lib.ListN.{length, List·getD-append}
 use lib.Seq.{getD-append-add}
 use Rattle.version.specs.declared.SguVersion.{SguVersion}
-use Rattle.voices.specs.declared.Core.{Core}
 use Rattle.sides.specs.Sides.{sideSum, addedTo}
 use Rattle.frames.specs.Turning.{frame, frames}
+use Rattle.frames.proofs.Framing.{frames-long}
 use Rattle.s3w2.specs.Mixing.{Mix, mix, added, mixed}
-use Rattle.s3w2.proofs.Framing.{frames-length}
 
 -- ---- stems with others after them, and before them
 sum-first : (l r : List ℤ) (from n : ℕ) → from + 2 * n ≤ length l + 1 → sideSum n (l ++ r) from ≡ sideSum n l from
@@ -56,8 +55,8 @@ module _ (version : SguVersion) (ram : List ℕ) (queues : List ℤ) where
     chunk-next b c =
         let f = frames version ram queues c (b .core) in
         let g = frame version ram queues (f .core) in
-        let l = sym (added-last plus (f .stems) (g .stems) 0 k (omega arith) (b .left) c (frames-length version ram queues c (b .core))) in
-        let r = sym (added-last plus (f .stems) (g .stems) 1 k (omega arith) (b .right) c (frames-length version ram queues c (b .core))) in
+        let l = sym (added-last plus (f .stems) (g .stems) 0 k (omega arith) (b .left) c (frames-long version ram queues (b .core) c)) in
+        let r = sym (added-last plus (f .stems) (g .stems) 1 k (omega arith) (b .right) c (frames-long version ram queues (b .core) c)) in
         λ i. record { core = g .core; left = l i; right = r i }
 
     -- c frames after k of them, all at once

@@ -1,6 +1,8 @@
 pub mod Refused
 pub mod Cases
-pub mod Framing
+pub mod Sounds
 pub mod Chunks
 pub mod Mixes
-pub mod Sounds
+pub mod Kept
+pub mod Bounds
+pub mod Ranges

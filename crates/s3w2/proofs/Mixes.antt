@@ -13,10 +13,11 @@ use Rattle.sides.proofs.Added.{added-length}
 use Rattle.version.specs.declared.SguVersion.{SguVersion}
 use Rattle.voices.specs.declared.Core.{Core}
 use Rattle.voices.specs.Accepted.{acceptsCore}
-use Rattle.frames.specs.Turning.{Turns, turned, frames, runOf}
+use Rattle.frames.specs.Turning.{Turns, frames, runOf}
+use Rattle.frames.proofs.Framing.{frames-turns, frames-long}
 use Rattle.s3w2.specs.declared.Chip.{Chip}
 use Rattle.s3w2.specs.Mixing.{Mix, mix, mixed, heardOn, clearedTo, mixedCalled, mixedLeft, mixedRight}
-use Rattle.s3w2.proofs.Framing.{turned-length, frames-length, frames-turns, run-open}
+use Rattle.s3w2.proofs.Sounds.{run-open}
 use Rattle.s3w2.proofs.Chunks.{chunk, mixed-chunk}
 
 -- a buffer overwritten from its start to its end
@@ -45,19 +46,16 @@ module _ (version : SguVersion) (ram : List ℕ) (queues : List ℤ) (core : Cor
   abbrev some : Turns
   some = frames version ram queues count core
 
-  opened : ran ≡ turned version ram queues 0 4 (8 * count) core
-  opened =
+  ran-frames : ran ≡ some
+  ran-frames =
       let e : length stems / 2 ≡ 8 * count = omega arith in
-      ap (λ (k : ℕ). runOf version ram queues 0 4 k core) e ∙ run-open version ram queues 0 4 (8 * count) core lent refl refl ok
+      ap (λ (k : ℕ). runOf version ram queues 0 4 k core) e ∙ run-open version ram queues 0 4 (8 * count) core lent (omega arith) (omega arith) ok ∙ frames-turns version ram queues core count
 
   pub ran-core : ran .core ≡ some .core
-  ran-core = ap (λ (t : Turns). t .core) opened ∙ frames-turns version ram queues count core .same
-
-  ran-list : ran .stems ≡ some .stems
-  ran-list = ap (λ (t : Turns). t .stems) opened ∙ frames-turns version ram queues count core .stems
+  ran-core = ap (λ (t : Turns). t .core) ran-frames
 
   pub ran-stems : sets stems 0 (ran .stems) ≡ some .stems
-  ran-stems = ap (sets stems 0) ran-list ∙ sets-all stems (some .stems) (es ∙ sym (frames-length version ram queues count core))
+  ran-stems = ap (λ (t : Turns). sets stems 0 (t .stems)) ran-frames ∙ sets-all stems (some .stems) (es ∙ sym (frames-long version ram queues core count))
 
 module _ (plus : ℤ → ℤ → ℤ) (version : SguVersion) (ram : List ℕ) (queues : List ℤ) (n : ℕ) (start : Mix) where
   pub begin : n ≡ min (length (start .left)) (length (start .right)) → acceptsCore (start .core) version (length ram) ≡ true → Going plus version ram queues n start 0 start

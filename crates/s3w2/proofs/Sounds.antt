@@ -1,5 +1,5 @@
--- A tick of one voice, from what the turns say. Assumes nothing.
-use mathlib.Core.Path.{_≡_, refl, sym, ap, _∙_}
+-- Turns of an accepted core, and a tick of one voice from what the turns say. Assumes nothing.
+use mathlib.Core.Path.{_≡_, sym, ap, _∙_}
 use mathlib.Core.Bool.{Bool, true, cond}
 use mathlib.Core.List.{List}
 use Prim.Native.Nat.{ℕ, _≤_, _<_}
@@ -7,18 +7,25 @@ use native.Mathlib.Omega.{arith}
 use lib.Dec.{eqb, ltb}
 use lib.IntN.{ℤ, pos}
 use lib.ListN.{length}
-use borrow.Author.Tests.{lt-ltb, le-ltb}
+use borrow.Author.Tests.{eqb-true, lt-ltb, le-ltb}
+use Rattle.version.specs.declared.SguVersion.{SguVersion}
 use Rattle.voices.specs.declared.Core.{Core}
 use Rattle.voices.specs.Accepted.{acceptsCore}
 use Rattle.frames.specs.Turning.{Turns, turned, runOf, afterTurns}
 use Rattle.frames.specs.declared.Turned.{Turned}
+use Rattle.frames.proofs.Asks.{asked, ran}
 use Rattle.s3w2.specs.declared.Chip.{Chip}
 use Rattle.s3w2.specs.declared.Called.{Called}
 use Rattle.s3w2.specs.declared.Answer.the-variants.{Sample}
 use Rattle.s3w2.specs.Answers.{answered}
 use Rattle.s3w2.specs.Chips.{withCore}
 use Rattle.s3w2.specs.Sound.{ticked}
-use Rattle.s3w2.proofs.Framing.{run-open}
+
+-- one to four ticks each, and 16,384 queue entries
+pub run-open : (version : SguVersion) (ram : List ℕ) (queues : List ℤ) (first n k : ℕ) (core : Core) → eqb (length queues) 16384 ≡ true → 1 ≤ n → n ≤ 4 → acceptsCore core version (length ram) ≡ true
+    → runOf version ram queues first n k core ≡ turned version ram queues first n k core
+run-open version ram queues first n k core lent low high ok =
+    sym (ran version ram queues n core first k (sym (asked version ram queues n core (eqb-true (length queues) 16384 lent) low high) ∙ ok))
 
 module _ (chip : Chip) (ram : List ℕ) (queues : List ℤ) (ch : ℕ) where
   abbrev given : Called
@@ -31,5 +38,5 @@ module _ (chip : Chip) (ram : List ℕ) (queues : List ℤ) (ch : ℕ) where
       → record { core = core; sample = sample } ≡ afterTurns (runOf (chip .version) ram queues ch 1 1 (chip .core))
       → answered (withCore chip core) (Sample sample) ≡ cond (ltb ch 8) given (answered chip (Sample (pos 0)))
   sample-some core sample h q a e =
-      let r : _≡_ {A = Turned} (record { core = core; sample = sample }) (afterTurns (ticked chip ram queues ch)) = e ∙ ap afterTurns (run-open (chip .version) ram queues ch 1 1 (chip .core) q refl refl a) in
+      let r : _≡_ {A = Turned} (record { core = core; sample = sample }) (afterTurns (ticked chip ram queues ch)) = e ∙ ap afterTurns (run-open (chip .version) ram queues ch 1 1 (chip .core) q (omega arith) (omega arith) a) in
       ap (λ (t : Turned). answered (withCore chip (t .core)) (Sample (t .sample))) r ∙ sym (ap (λ (t : Bool). cond t given (answered chip (Sample (pos 0)))) (lt-ltb ch 8 (omega arith)))

@@ -1,0 +1,40 @@
+-- What a log prints, line by line, and the largest frame values.
+use mathlib.Core.List.{List, [], _∷_, _++_}
+use Prim.Native.Nat.{ℕ, zero, suc, max}
+use lib.IntN.{ℤ, pos, natAbs}
+use lib.ListN.{getD}
+use Rattle.decimal.specs.Written.{decimal, render}
+
+-- a number behind a comma
+unfoldable pub field : ℤ → List ℕ
+field z = 44 ∷ render z
+
+-- two numbers behind a word, and byte 10
+unfoldable pub pairLine : List ℕ → ℤ → ℤ → List ℕ
+pairLine word a b = word ++ (field a ++ (field b ++ (10 ∷ [])))
+
+-- `F`, left, right
+abbrev pub frameLine : ℤ → ℤ → List ℕ
+frameLine left right = pairLine (70 ∷ []) left right
+
+-- the lines of the first n frames
+unfoldable pub frameLines : List ℤ → List ℤ → ℕ → List ℕ
+frameLines left right zero = []
+frameLines left right (suc n) = frameLines left right n ++ frameLine (getD left n (pos 0)) (getD right n (pos 0))
+
+-- `R` (82) or `P` (80), address, byte
+abbrev pub readLine : ℕ → ℕ → ℕ → List ℕ
+readLine kind address byte = pairLine (kind ∷ []) (pos address) (pos byte)
+
+-- `bad`, the line's number, 17
+unfoldable pub badLine : ℕ → List ℕ
+badLine number = (98 ∷ 97 ∷ 100 ∷ 44 ∷ []) ++ (decimal number ++ (44 ∷ 49 ∷ 55 ∷ 10 ∷ []))
+
+-- `peak`, left, right
+abbrev pub peakLine : ℕ → ℕ → List ℕ
+peakLine left right = pairLine (112 ∷ 101 ∷ 97 ∷ 107 ∷ []) (pos left) (pos right)
+
+-- the largest of a number and the sizes of the first n values of a side
+unfoldable pub peakOf : ℕ → List ℤ → ℕ → ℕ
+peakOf before side zero = before
+peakOf before side (suc n) = max (peakOf before side n) (natAbs (getD side n (pos 0)))

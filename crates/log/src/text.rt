@@ -1,0 +1,94 @@
+// What a log prints, and the largest frame values.
+ghost use mathlib.Core.Path.{_≡_};
+ghost use Prim.Native.Nat.{min, max};
+ghost use lib.ListN.{length};
+ghost use Rattle.decimal.specs.Written.{Put};
+ghost use Rattle.log.specs.Texts.{field, pairLine, frameLine, frameLines, readLine, badLine, peakLine, peakOf};
+
+// Puts a number behind a comma.
+fn put_field(out: &mut [u8], at: usize, value: i64) -> usize
+    ensures { λ r. ⌜ Put (now (out .entry)) (now (out .exit)) at (field value) r ⌝ }
+{
+    let comma = decimal::put_byte(out, at, 44);
+    decimal::put_number(out, comma, value)
+}
+
+// Puts two numbers behind a word, and byte 10.
+fn put_pair(out: &mut [u8], at: usize, word: &[u8], a: i64, b: i64) -> usize
+    ensures { λ r. ⌜ Put (now (out .entry)) (now (out .exit)) at (pairLine (now (word .entry)) a b) r ⌝ }
+{
+    let first = decimal::put_text(out, at, word);
+    let second = put_field(out, first, a);
+    let third = put_field(out, second, b);
+    decimal::put_byte(out, third, 10)
+}
+
+// Puts the line of a frame: `F`, left, right.
+fn put_frame(out: &mut [u8], at: usize, left: i16, right: i16) -> usize
+    ensures { λ r. ⌜ Put (now (out .entry)) (now (out .exit)) at (frameLine left right) r ⌝ }
+{
+    put_pair(out, at, b"F", left as i64, right as i64)
+}
+
+// Puts a line for each frame of two sides, as many as the shorter has.
+pub fn put_frames(out: &mut [u8], at: usize, left: &[i16], right: &[i16]) -> usize
+    ensures { λ r. ⌜ Put (now (out .entry)) (now (out .exit)) at (frameLines (now (left .entry)) (now (right .entry)) (min (length (now (left .entry))) (length (now (right .entry))))) r ⌝ }
+{
+    let frames = num::least(left.len(), right.len());
+    let mut end = num::least(at, out.len());
+    let mut i = 0;
+    while i < frames {
+        end = put_frame(out, end, left[i], right[i]);
+        i += 1;
+    }
+    end
+}
+
+// Puts `R`, the address and the byte.
+pub fn put_read(out: &mut [u8], at: usize, address: u32, byte: u8) -> usize
+    ensures { λ r. ⌜ Put (now (out .entry)) (now (out .exit)) at (readLine 82 address byte) r ⌝ }
+{
+    put_pair(out, at, b"R", address as i64, byte as i64)
+}
+
+// Puts `P`, the address and the byte.
+pub fn put_peek(out: &mut [u8], at: usize, address: u32, byte: u8) -> usize
+    ensures { λ r. ⌜ Put (now (out .entry)) (now (out .exit)) at (readLine 80 address byte) r ⌝ }
+{
+    put_pair(out, at, b"P", address as i64, byte as i64)
+}
+
+// Puts the line that tells of a malformed one: `bad`, its number, 17.
+pub fn put_bad(out: &mut [u8], at: usize, number: u64) -> usize
+    ensures { λ r. ⌜ Put (now (out .entry)) (now (out .exit)) at (badLine number) r ⌝ }
+{
+    let first = decimal::put_text(out, at, b"bad,");
+    let second = decimal::put_natural(out, first, number);
+    decimal::put_text(out, second, b",17\n")
+}
+
+// Puts the last line: `peak`, left, right.
+pub fn put_peak(out: &mut [u8], at: usize, left: u32, right: u32) -> usize
+    ensures { λ r. ⌜ Put (now (out .entry)) (now (out .exit)) at (peakLine left right) r ⌝ }
+{
+    put_pair(out, at, b"peak", left as i64, right as i64)
+}
+
+fn larger(a: u32, b: u32) -> u32
+    ensures { λ r. ⌜ r ≡ max a b ⌝ }
+{
+    if a < b { b } else { a }
+}
+
+// The largest of a number and a side's sizes.
+pub fn peak(before: u32, side: &[i16]) -> u32
+    ensures { λ r. ⌜ r ≡ peakOf before (now (side .entry)) (length (now (side .entry))) ⌝ }
+{
+    let mut largest = before;
+    let mut i = 0;
+    while i < side.len() {
+        largest = larger(largest, num::magnitude(side[i] as i32));
+        i += 1;
+    }
+    largest
+}

@@ -1,0 +1,103 @@
+-- What a line does, by its kind. Assumes nothing.
+use mathlib.Core.Path.{_≡_, refl, sym, ap, _∙_}
+use mathlib.Core.List.{List, [], _∷_}
+use Prim.Native.Nat.{ℕ, zero, suc, _≤_, min}
+use native.Mathlib.Omega.{arith}
+use lib.IntN.{ℤ, pos}
+use lib.ListN.{length, take, replicate}
+use Rattle.decimal.specs.Written.{Put}
+use Rattle.decimal.proofs.Writing.{put-none}
+use Rattle.version.specs.declared.SguVersion.{SguVersion}
+use Rattle.log.specs.declared.Line.{Line}
+use Rattle.log.specs.declared.Line.the-variants.{Write, WriteRam, Read, Peek, Clock, Version, Malformed}
+use Rattle.log.specs.Texts.{frameLines, readLine, peakOf}
+use Rattle.s3w2.specs.declared.Called.{Called}
+use Rattle.s3w2.specs.declared.Answer.{Answer}
+use Rattle.s3w2.specs.Fresh.{setVersionCalled}
+use Rattle.s3w2.specs.Ram.{writePcmRamCalled, writePcmRamRam}
+use Rattle.s3w2.specs.Registers.{writeRegisterCalled, writeRegisterBuffer, readRegisterCalled, peekRegisterAnswer}
+use Rattle.s3w2.specs.Mixing.{clockMixedCalled, clockMixedLeft, clockMixedRight}
+use Rattle.log_player.specs.declared.Player.{Player}
+use Rattle.log_player.specs.Worlds.{World, withChip}
+use Rattle.log_player.specs.Applied.{versionOf, byteOf, clocked, clockedText, silent, playerAfter, ramAfter, queuesAfter, printed}
+
+-- what `apply` promises
+abbrev pub Applied : World → Line → Player → List ℕ → List ℤ → List ℕ → List ℕ → ℕ → ℕ → Type 0
+Applied w line p ram queues out now at end =
+    (p ≡ playerAfter w line) × ((ram ≡ ramAfter w line) × ((queues ≡ queuesAfter w line) × Put out now at (printed w line) end))
+
+-- one line for another that equals it
+equal : (w : World) (line other : Line) (p : Player) (ram : List ℕ) (queues : List ℤ) (out now : List ℕ) (at end : ℕ) → line ≡ other → Applied w other p ram queues out now at end → Applied w line p ram queues out now at end
+equal w line other p ram queues out now at end e a =
+    (a .0 ∙ ap (playerAfter w) (sym e), (a .1 .0 ∙ ap (ramAfter w) (sym e), (a .1 .1 .0 ∙ ap (queuesAfter w) (sym e), rw e (a .1 .1 .1))))
+
+-- a line that prints nothing
+nothing : (out : List ℕ) (at same end : ℕ) → same ≡ min at (length out) → end ≡ same → Put out out at [] end
+nothing out at same end s e = put-none out at end (e ∙ s)
+
+-- ---- lines that print nothing; `same` is the place at which they might have
+module _ (w : World) (line : Line) (p : Player) (out : List ℕ) (at same end : ℕ) where
+  pub write-line : (a v : ℕ) (called : Called) (queues : List ℤ) → line ≡ Write a v → called ≡ writeRegisterCalled (w .player .chip) (length (w .queues)) a v → queues ≡ writeRegisterBuffer (w .player .chip) (w .queues) a v → p ≡ withChip (w .player) (called .chip) → same ≡ min at (length out) → end ≡ same → Applied w line p (w .ram) queues out out at end
+  unfolding playerAfter ramAfter queuesAfter printed
+  write-line a v called queues e c q h s r =
+      equal w line (Write a v) p (w .ram) queues out out at end e
+      (h ∙ ap (λ (k : Called). withChip (w .player) (k .chip)) c, (refl, (q, nothing out at same end s r)))
+
+  pub ram-line : (a v : ℕ) (called : Called) (ram : List ℕ) → line ≡ WriteRam a v → called ≡ writePcmRamCalled (w .player .chip) (length (w .ram)) a → ram ≡ writePcmRamRam (w .player .chip) (w .ram) a v → p ≡ withChip (w .player) (called .chip) → same ≡ min at (length out) → end ≡ same → Applied w line p ram (w .queues) out out at end
+  unfolding playerAfter ramAfter queuesAfter printed
+  ram-line a v called ram e c m h s r =
+      equal w line (WriteRam a v) p ram (w .queues) out out at end e
+      (h ∙ ap (λ (k : Called). withChip (w .player) (k .chip)) c, (m, (refl, nothing out at same end s r)))
+
+  pub version-line : (n : ℕ) (version : SguVersion) (called : Called) → line ≡ Version n → version ≡ versionOf n → called ≡ setVersionCalled (w .player .chip) version → p ≡ withChip (w .player) (called .chip) → same ≡ min at (length out) → end ≡ same → Applied w line p (w .ram) (w .queues) out out at end
+  unfolding playerAfter ramAfter queuesAfter printed
+  version-line n version called e v c h s r =
+      equal w line (Version n) p (w .ram) (w .queues) out out at end e
+      (h ∙ ap (λ (k : Called). withChip (w .player) (k .chip)) (c ∙ ap (setVersionCalled (w .player .chip)) v), (refl, (refl, nothing out at same end s r)))
+
+  pub bad-line : line ≡ Malformed → p ≡ w .player → same ≡ min at (length out) → end ≡ same → Applied w line p (w .ram) (w .queues) out out at end
+  unfolding playerAfter ramAfter queuesAfter printed
+  bad-line e h s r = equal w line Malformed p (w .ram) (w .queues) out out at end e (h, (refl, (refl, nothing out at same end s r)))
+
+-- ---- lines that print
+module _ (w : World) (line : Line) (p : Player) (out now : List ℕ) (at end : ℕ) where
+  pub read-line : (a byte same : ℕ) (called : Called) → line ≡ Read a → called ≡ readRegisterCalled (w .player .chip) a → byte ≡ byteOf (called .answer) → Put out now at (readLine 82 a byte) same → p ≡ withChip (w .player) (called .chip) → end ≡ same → Applied w line p (w .ram) (w .queues) out now at end
+  unfolding playerAfter ramAfter queuesAfter printed
+  read-line a byte same called e c b t h r =
+      equal w line (Read a) p (w .ram) (w .queues) out now at end e
+      (h ∙ ap (λ (k : Called). withChip (w .player) (k .chip)) c, (refl, (refl, rw (r, ← (b ∙ ap (λ (k : Called). byteOf (k .answer)) c)) t)))
+
+  pub peek-line : (a byte same : ℕ) (answer : Answer) → line ≡ Peek a → answer ≡ peekRegisterAnswer (w .player .chip) a → byte ≡ byteOf answer → Put out now at (readLine 80 a byte) same → p ≡ w .player → end ≡ same → Applied w line p (w .ram) (w .queues) out now at end
+  unfolding playerAfter ramAfter queuesAfter printed
+  peek-line a byte same answer e c b t h r =
+      equal w line (Peek a) p (w .ram) (w .queues) out now at end e
+      (h, (refl, (refl, rw (r, ← (b ∙ ap byteOf c)) t)))
+
+  pub clock-line : (n : ℕ) (queues : List ℤ) → line ≡ Clock n → p ≡ clocked (w .player) (w .ram) (w .queues) (silent n) (silent n) → queues ≡ w .queues → Put out now at (clockedText (w .player .chip) (w .ram) (w .queues) (silent n) (silent n)) end → Applied w line p (w .ram) queues out now at end
+  unfolding playerAfter ramAfter queuesAfter printed
+  clock-line n queues e h q t = equal w line (Clock n) p (w .ram) queues out now at end e (h, (refl, (q, t)))
+
+-- ---- frames
+abbrev pub played : Called → ℕ → ℕ → Player
+played called left right = record { chip = called .chip; left = left; right = right }
+
+module _ (p : Player) (ram : List ℕ) (queues left right l r : List ℤ) where
+  pub frames-played : (called : Called) (a b : ℕ) → called ≡ clockMixedCalled (p .chip) ram queues left right → l ≡ clockMixedLeft (p .chip) ram queues left right → r ≡ clockMixedRight (p .chip) ram queues left right → a ≡ peakOf (p .left) l (length l) → b ≡ peakOf (p .right) r (length r) → played called a b ≡ clocked p ram queues left right
+  unfolding clocked
+  frames-played called a b c x y s t = ap (λ (k : Called). played k a b) c ∙ ap (λ (n : ℕ). played k n b) (s ∙ ap (λ (z : List ℤ). peakOf (p .left) z (length z)) x) ∙ ap (played k _) (t ∙ ap (λ (z : List ℤ). peakOf (p .right) z (length z)) y)
+    where
+      k : Called
+      k = clockMixedCalled (p .chip) ram queues left right
+
+  pub frames-printed : (out now : List ℕ) (at end : ℕ) → l ≡ clockMixedLeft (p .chip) ram queues left right → r ≡ clockMixedRight (p .chip) ram queues left right → Put out now at (frameLines l r (min (length l) (length r))) end → Put out now at (clockedText (p .chip) ram queues left right) end
+  unfolding clockedText
+  frames-printed out now at end x y t = rw (x, y) at t
+
+-- ---- a part of zeros
+pub take-replicate : (n m : ℕ) (z : ℤ) → n ≤ m → take n (replicate m z) ≡ replicate n z
+take-replicate zero m z h = refl
+take-replicate (suc n) zero z h = absurd (omega arith)
+take-replicate (suc n) (suc m) z h = ap (λ (l : List ℤ). z ∷ l) (take-replicate n m z (omega arith))
+
+pub zeros-are : (n frames : ℕ) → n ≡ min frames 1000 → take n (replicate 1000 (pos 0)) ≡ silent frames
+zeros-are n frames e = take-replicate n 1000 (pos 0) (omega arith) ∙ ap (λ (k : ℕ). replicate k (pos 0)) e

@@ -1,0 +1,5 @@
+pub mod Applies
+pub mod Stops
+pub mod Whole
+pub mod Running
+pub mod Keeping

@@ -1,0 +1,105 @@
+use borrow.Author.Needs.{needs}
+use mathlib.Core.Path.{_≡_, refl, sym, subst, _∙_}
+use Prim.Native.Nat.{_-_, _^_}
+use native.Mathlib.Omega.{arith}
+use lib.ListN.{length, drop}
+use Rattle.log_player.specs.declared.Next.the-variants.{Line}
+use Rattle.log_player.specs.Worlds.{world}
+use Rattle.log_player.specs.Runs.{Runs}
+use Rattle.log_player.proofs.Running.{runs-none, runs-line, runs-stop, no-rest, Promised, steps-as}
+use Rattle.log_player.proofs.Player.run.Statement.{statement}
+use Rattle.log_player.proofs.Player.run.Tie as tie
+
+abbrev Inv-loop : tie.InvT-loop
+Inv-loop input from number ram₀ queues₀ out₀ player₀ place₀ line₀ end₀ ram queues out player place line end =
+    (length ram ≡ length ram₀) × (length queues ≡ length queues₀) × (length out ≡ length out₀) × Runs (world player₀ ram₀ queues₀) number (drop from input) (world player ram queues) line (Line place) (drop place input) out₀ out end
+
+abbrev μ-loop : tie.MeasureT-loop
+μ-loop input from number ram₀ queues₀ out₀ player₀ place₀ line₀ end₀ ram queues out player place line end =
+    2 ^ 64 - line
+
+loop-holds : tie.Need-loop-holds Inv-loop μ-loop
+loop-holds c = (refl, refl, refl, runs-none _ _ _ _ _)
+
+has-room-requires : tie.Need-has-room-requires Inv-loop μ-loop
+has-room-requires c κs = search needs
+
+step-requires : tie.Need-step-requires Inv-loop μ-loop
+step-requires c κs = search needs
+
+enum-known-next : tie.Need-enum-known-next Inv-loop μ-loop
+enum-known-next c = search needs
+
+ran-requires : tie.Need-ran-requires Inv-loop μ-loop
+ran-requires c κs = search needs
+
+same-length : tie.Need-same-length Inv-loop μ-loop
+same-length c = c .before .before .before .before .before .before .before .before .step .kept .1 .1 .1 .1 .0 ∙ c .before .before .before .before .before .before .before .before .before .before .before .before .before .before .loop .inv .0
+
+same-length-2 : tie.Need-same-length-2 Inv-loop μ-loop
+same-length-2 c = c .before .before .before .before .before .before .before .before .step .kept .1 .1 .1 .1 .1 .0 ∙ c .before .before .before .before .before .before .before .before .before .before .before .before .before .before .loop .inv .1
+
+same-length-3 : tie.Need-same-length-3 Inv-loop μ-loop
+same-length-3 c = c .before .before .before .before .before .before .before .before .step .kept .1 .1 .1 .1 .1 .1 .0 ∙ c .before .before .before .before .before .before .before .before .before .before .before .before .before .before .loop .inv .2
+
+returns : tie.Need-returns Inv-loop μ-loop
+returns c =
+    let step = c .before .before .before .before .before .before .before .before .step .ensures in
+    let loop = c .before .before .before .before .before .before .before .before .before .before .before .before .before .before .loop in
+    let start = c .before .before .before .before .before .before .before .before .before .before .before .before .before .before .before .before .before .before in
+    subst (Promised (world (c .before .before .before .before .before .before .before .before .before .before .before .before .before .before .before .before .before .before .args .self) (c .before .before .before .before .before .before .before .before .before .before .before .before .before .before .before .before .before .before .args .ram .now) (c .before .before .before .before .before .before .before .before .before .before .before .before .before .before .before .before .before .before .args .queues .now)) (start .args .number) (drop (start .args .from) (start .args .input .now)) (start .args .input .now) _ _ (start .args .out .now) _) (sym (c .ran .ensures))
+    (runs-stop _ _ _ _ _ _ _ _ (start .args .input .now) _ _ _ _ _ _ _ (c .before .match .keys2) (loop .inv .3) (sym (step .0)) (steps-as _ _ _ _ _ _ _ _ _ _ _ _ _ refl step), λ e. sym (step .0) ∙ e)
+
+add-line : tie.Need-add-line Inv-loop μ-loop
+add-line c = omega (arith, c .before .before .before .before .before .before .before .before .before .before .before .before .before .before .has-room .ensures (c .before .before .before .before .before .before .before .before .before .before .before .before .before .if1 .taken))
+
+loop-less : tie.Need-loop-less Inv-loop μ-loop
+loop-less c = omega (arith, c .before .before .before .before .before .before .before .before .before .before .before .before .before .before .has-room .ensures (c .before .before .before .before .before .before .before .before .before .before .before .before .before .if1 .taken))
+
+loop-again : tie.Need-loop-again Inv-loop μ-loop
+loop-again c =
+    let step = c .before .before .before .before .before .before .before .before .before .step .ensures in
+    let kept = c .before .before .before .before .before .before .before .before .before .step .kept in
+    let inv = c .before .before .before .before .before .before .before .before .before .before .before .before .before .before .before .loop .inv in
+    (kept .1 .1 .1 .1 .0 ∙ inv .0, kept .1 .1 .1 .1 .1 .0 ∙ inv .1, kept .1 .1 .1 .1 .1 .1 .0 ∙ inv .2, runs-line _ _ _ _ _ _ _ _ (c .before .before .before .before .before .before .before .before .before .before .before .before .before .before .before .before .before .before .before .args .input .now) _ _ _ _ _ _ _ (inv .3) (sym (step .0) ∙ c .before .next .given .1) (steps-as _ _ _ _ _ _ _ _ _ _ _ _ _ (c .before .next .given .1) step))
+
+ran-requires-2 : tie.Need-ran-requires-2 Inv-loop μ-loop
+ran-requires-2 c κs = search needs
+
+same-length-4 : tie.Need-same-length-4 Inv-loop μ-loop
+same-length-4 c = search needs
+
+same-length-5 : tie.Need-same-length-5 Inv-loop μ-loop
+same-length-5 c = search needs
+
+same-length-6 : tie.Need-same-length-6 Inv-loop μ-loop
+same-length-6 c = search needs
+
+returns-2 : tie.Need-returns-2 Inv-loop μ-loop
+returns-2 c =
+    let start = c .before .before .before .before .before .before .before in
+    subst (Promised (world (c .before .before .before .before .before .before .before .args .self) (c .before .before .before .before .before .before .before .args .ram .now) (c .before .before .before .before .before .before .before .args .queues .now)) (start .args .number) (drop (start .args .from) (start .args .input .now)) (start .args .input .now) _ _ (start .args .out .now) _) (sym (c .ran2 .ensures)) (c .before .before .before .loop .inv .3, λ e. no-rest _ e)
+
+pub run-spec : {M : Type 1} → statement M
+run-spec =
+    tie.close
+    (tie.spec
+    Inv-loop
+    μ-loop
+    loop-holds
+    has-room-requires
+    step-requires
+    enum-known-next
+    ran-requires
+    same-length
+    same-length-2
+    same-length-3
+    returns
+    add-line
+    loop-less
+    loop-again
+    ran-requires-2
+    same-length-4
+    same-length-5
+    same-length-6
+    returns-2)

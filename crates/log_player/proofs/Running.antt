@@ -1,0 +1,114 @@
+-- The lines of an input, one more at a time. Assumes nothing.
+use mathlib.Core.Path.{_≡_, refl, sym, ap, _∙_}
+use mathlib.Core.Bool.{Bool, true, false}
+use mathlib.Core.List.{List, [], _∷_, _++_, append-assoc, append-nil}
+use Prim.Native.Nat.{ℕ, suc, _+_}
+use native.Mathlib.Numerals.{add-one}
+use native.Mathlib.Omega.{arith}
+use lib.Dec.{eqb, leb}
+use lib.IntN.{ℤ}
+use lib.ListN.{length, drop}
+use lib.Seq.{drop-drop}
+use types.Run.{OneOf, miss}
+use denote.Enum.Declared.{tagOf}
+use Rattle.decimal.proofs.Writing.{put-append, put-none}
+use Rattle.log.specs.Lines.{lineOf}
+use Rattle.log_player.proofs.Next.{the-type}
+use Rattle.log_player.specs.declared.Player.{Player}
+use Rattle.log_player.specs.declared.Ran.{Ran}
+use Rattle.log_player.specs.declared.Next.{Next}
+use Rattle.log_player.specs.declared.Next.the-variants.{Line, Rest, Bad}
+use Rattle.log_player.specs.Worlds.{World, world}
+use Rattle.log_player.specs.Applied.{after, printed}
+use Rattle.log_player.specs.Logs.{malformed, restText}
+use Rattle.log_player.specs.Steps.{firstLine, nextOf, stepText}
+use Rattle.log_player.specs.Runs.{Runs}
+use Rattle.log_player.proofs.Stops.{Steps}
+use Rattle.log_player.proofs.Whole.{step-line, step-bad}
+
+pub runs-none : (w : World) (number : ℕ) (rest : List ℕ) (place : ℕ) (out : List ℕ) → Runs w number rest w number (Line place) rest out out 0
+runs-none w number rest place out = record { text = []; put = put-none out 0 0 (omega arith); left = λ more. refl }
+
+-- the place behind a line that is played
+behind-line : (rest : List ℕ) (at place : ℕ) → nextOf rest at ≡ Line place → place ≡ at + suc (length (firstLine rest))
+unfolding nextOf
+behind-line rest at place e = go (eqb (length (firstLine rest)) (length rest)) refl (malformed (lineOf (firstLine rest))) refl (leb (length rest) 16) refl
+  where
+    go : (a : Bool) → eqb (length (firstLine rest)) (length rest) ≡ a → (b : Bool) → malformed (lineOf (firstLine rest)) ≡ b → (c : Bool) → leb (length rest) 16 ≡ c → place ≡ at + suc (length (firstLine rest))
+    go true t b m true k = let z : Rest ≡ Line place = rw (t, k) at e in (cc)
+    go true t b m false k = let z : Bad ≡ Line place = rw (t, k) at e in (cc)
+    go false t true m c k = let z : Bad ≡ Line place = rw (t, m) at e in (cc)
+    go false t false m c k =
+        let z : Line (at + length (firstLine rest) + 1) ≡ Line place = rw (t, m) at e in
+        let y : at + length (firstLine rest) + 1 ≡ place = cc in
+        omega arith
+
+module _ (w a : World) (number line place end e : ℕ) (start input : List ℕ) (out mid now : List ℕ) (p : Player) (ram : List ℕ) (queues : List ℤ) where
+  -- what the step before and this one promise
+  abbrev rest : List ℕ
+  rest = drop place input
+
+  pub runs-line : (behind : ℕ) → Runs w number start a line (Line place) rest out mid end → nextOf rest place ≡ Line behind → Steps a line (Line behind) (firstLine rest) (Line behind) p ram queues mid now end e → Runs w number start (world p ram queues) (line + 1) (Line behind) (drop behind input) out now e
+  runs-line behind r n s =
+      record {
+        text = r .text ++ printed a (lineOf (firstLine rest));
+        put = put-append out mid now 0 end e (r .text) (printed a (lineOf (firstLine rest))) (r .put) (s .1 .1 .1 .1);
+        left = λ more.
+            r .left more
+            ∙ ap (λ (t : List ℕ). r .text ++ t) (step-line a line rest place behind more n ∙ ap (λ (t : List ℕ). printed a (lineOf (firstLine rest)) ++ t) (goes more))
+            ∙ sym (append-assoc (r .text) (printed a (lineOf (firstLine rest))) (restText (world p ram queues) (line + 1) [] (drop behind input ++ more)));
+      }
+    where
+      same : after a (lineOf (firstLine rest)) ≡ world p ram queues
+      same = sym (λ i. world (s .1 .0 i) (s .1 .1 .0 i) (s .1 .1 .1 .0 i))
+
+      there : drop (suc (length (firstLine rest))) rest ≡ drop behind input
+      there = drop-drop (suc (length (firstLine rest))) place input ∙ ap (λ (k : ℕ). drop k input) (sym (behind-line rest place behind n))
+
+      goes : (more : List ℕ) → restText (after a (lineOf (firstLine rest))) (suc line) [] (drop (suc (length (firstLine rest))) rest ++ more) ≡ restText (world p ram queues) (line + 1) [] (drop behind input ++ more)
+      goes more = rw (add-one line, there) (ap (λ (v : World). restText v (suc line) [] (drop behind input ++ more)) same)
+
+  pub runs-rest : Runs w number start a line (Line place) rest out mid end → Steps a line Rest (firstLine rest) Rest p ram queues mid now end e → Runs w number start (world p ram queues) line Rest rest out now e
+  runs-rest r s =
+      record {
+        text = r .text ++ [];
+        put = put-append out mid now 0 end e (r .text) [] (r .put) (s .1 .1 .1 .1);
+        left = λ more.
+            r .left more
+            ∙ ap (λ (v : World). r .text ++ restText v line [] (rest ++ more)) same
+            ∙ sym (append-assoc (r .text) [] (restText (world p ram queues) line [] (rest ++ more)));
+      }
+    where
+      same : a ≡ world p ram queues
+      same = sym (λ i. world (s .1 .0 i) (s .1 .1 .0 i) (s .1 .1 .1 .0 i))
+
+  pub runs-bad : Runs w number start a line (Line place) rest out mid end → nextOf rest place ≡ Bad → Steps a line Bad (firstLine rest) Bad p ram queues mid now end e → Runs w number start (world p ram queues) line Bad rest out now e
+  runs-bad r n s =
+      record {
+        text = r .text ++ stepText a line Bad (firstLine rest);
+        put = put-append out mid now 0 end e (r .text) (stepText a line Bad (firstLine rest)) (r .put) (s .1 .1 .1 .1);
+        left = λ more.
+            r .left more
+            ∙ ap (λ (t : List ℕ). r .text ++ t) (step-bad a line rest place more n)
+            ∙ sym (append-assoc (r .text) (stepText a line Bad (firstLine rest)) [] ∙ ap (λ (t : List ℕ). r .text ++ t) (append-nil (stepText a line Bad (firstLine rest))));
+      }
+
+  -- a step that was no line's, by its tag
+  pub runs-stop : (next : Next) → OneOf (1 ∷ 2 ∷ []) (tagOf the-type next) → Runs w number start a line (Line place) rest out mid end → nextOf rest place ≡ next → Steps a line next (firstLine rest) next p ram queues mid now end e → Runs w number start (world p ram queues) line next rest out now e
+  runs-stop (Line k) t r n s = absurd (miss (1 ∷ 2 ∷ []) 0 tt t)
+  runs-stop Rest t r n s = runs-rest r s
+  runs-stop Bad t r n s = runs-bad r n s
+
+-- what `run` promises of its answer
+abbrev pub Promised : World → ℕ → List ℕ → List ℕ → List ℕ → List ℤ → List ℕ → List ℕ → Ran → Type 0
+Promised w number start input ram queues out now r =
+    Runs w number start (world (r .player) ram queues) (r .number) (r .next) (drop (r .from) input) out now (r .end) × (r .next ≡ Rest → nextOf (drop (r .from) input) (r .from) ≡ Rest)
+
+-- a step's promise, where what comes next is named
+pub steps-as : (a : World) (line : ℕ) (n m : Next) (text : List ℕ) (p : Player) (ram : List ℕ) (queues : List ℤ) (mid now : List ℕ) (end e : ℕ) (next : Next) → next ≡ m → Steps a line n text next p ram queues mid now end e → Steps a line m text m p ram queues mid now end e
+steps-as a line n m text p ram queues mid now end e next k s =
+    let q : n ≡ m = sym (s .0) ∙ k in
+    (refl, rw q at (s .1))
+
+pub no-rest : {A : Type 0} (place : ℕ) → Line place ≡ Rest → A
+no-rest place e = absurd (let z : _≡_ {A = ℕ} 0 1 = cc in omega arith)

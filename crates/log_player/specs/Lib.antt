@@ -1,0 +1,5 @@
+pub mod Worlds
+pub mod Applied
+pub mod Logs
+pub mod Steps
+pub mod Runs

@@ -1,0 +1,27 @@
+-- Some of a log played: what it has printed, and what is left.
+use mathlib.Core.Path.{_≡_}
+use mathlib.Core.List.{List, [], _++_}
+use Prim.Native.Nat.{ℕ}
+use Rattle.decimal.specs.Written.{Put}
+use Rattle.log_player.specs.declared.Next.{Next}
+use Rattle.log_player.specs.declared.Player.{Player}
+use Rattle.log_player.specs.declared.Ran.{Ran}
+use Rattle.log_player.specs.declared.Next.the-variants.{Line, Rest, Bad}
+use Rattle.log_player.specs.Worlds.{World}
+use Rattle.log_player.specs.Logs.{restText}
+
+-- what the rest of a log prints; nothing behind a malformed line
+abbrev pub leftText : World → ℕ → Next → List ℕ → List ℕ
+leftText w number (Line place) rest = restText w number [] rest
+leftText w number Rest rest = restText w number [] rest
+leftText w number Bad rest = []
+
+-- From a world and a line's number on, an input was played up to a rest of it, and `text` was put at the front of a buffer: whatever
+-- follows the input, the log prints that text and then what the rest and what follows print.
+pub record Runs (w : World) (number : ℕ) (input : List ℕ) (behind : World) (line : ℕ) (next : Next) (rest : List ℕ) (out now : List ℕ) (end : ℕ) : Type 0 where
+  pub text : List ℕ
+  pub put : Put out now 0 text end
+  pub left : (more : List ℕ) → restText w number [] (input ++ more) ≡ text ++ leftText behind line next (rest ++ more)
+
+abbrev pub ranTo : Player → Next → ℕ → ℕ → ℕ → Ran
+ranTo player next from number end = record { player = player; next = next; from = from; number = number; end = end }

@@ -1,0 +1,28 @@
+-- A chip with its peaks, and the RAM and the queue buffer that are lent to it.
+use mathlib.Core.List.{List}
+use Prim.Native.Nat.{ℕ}
+use lib.IntN.{ℤ, pos}
+use lib.ListN.{replicate}
+use Rattle.version.specs.declared.SguVersion.the-variants.{«V3_1»}
+use Rattle.s3w2.specs.declared.Chip.{Chip}
+use Rattle.s3w2.specs.Fresh.{madeCalled}
+use Rattle.log_player.specs.declared.Player.{Player}
+
+pub record World : Type 0 where
+  pub player : Player
+  pub ram : List ℕ
+  pub queues : List ℤ
+
+abbrev pub world : Player → List ℕ → List ℤ → World
+world player ram queues = record { player = player; ram = ram; queues = queues }
+
+abbrev pub withChip : Player → Chip → Player
+withChip p chip = record { chip = chip; left = p .left; right = p .right }
+
+-- a fresh V3.1 chip over a RAM of some length
+abbrev pub freshPlayer : ℕ → Player
+freshPlayer ram = record { chip = madeCalled ram «V3_1» .chip; left = 0; right = 0 }
+
+-- document 01's: 65,536 bytes of zeros
+abbrev pub freshWorld : World
+freshWorld = world (freshPlayer 65536) (replicate 65536 0) (replicate 16384 (pos 0))

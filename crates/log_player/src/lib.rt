@@ -1,0 +1,44 @@
+// A log played: each line on a chip, and the text that it prints.
+mod playing;
+mod runs;
+mod steps;
+
+pub use runs::keep;
+use s3w2::Chip;
+
+// A chip, and the largest absolute frame values that it has given.
+pub struct Player {
+    pub chip: Chip,
+    pub left: u32,
+    pub right: u32,
+}
+
+// A player after a line, and the place behind what the line has printed.
+pub struct Played {
+    pub player: Player,
+    pub end: usize,
+}
+
+// What an input holds at a place: a line, which was played, and the place of the next one; no whole line; a malformed line.
+pub enum Next {
+    Line(usize),
+    Rest,
+    Bad,
+}
+
+// A player after a step, and the place behind what the step has printed.
+pub struct Stepped {
+    pub player: Player,
+    pub next: Next,
+    pub end: usize,
+}
+
+// A player after some lines of an input: what it holds behind them, where, the number of the line there, and the place behind
+// what they have printed.
+pub struct Ran {
+    pub player: Player,
+    pub next: Next,
+    pub from: usize,
+    pub number: u64,
+    pub end: usize,
+}

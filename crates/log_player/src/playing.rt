@@ -1,0 +1,157 @@
+// One line played.
+ghost use mathlib.Core.Path.{_≡_};
+ghost use lib.ListN.{length};
+ghost use Rattle.decimal.specs.Written.{Put};
+ghost use Rattle.s3w2.specs.Fresh.{madeRam};
+ghost use Rattle.log_player.specs.Worlds.{world, withChip, freshPlayer};
+ghost use Rattle.log_player.specs.Applied.{versionOf, byteOf, clocked, clockedText, silent, playerAfter, ramAfter, queuesAfter, printed};
+use crate::Played;
+use crate::Player;
+use log::Line;
+use s3w2::Answer;
+use s3w2::Chip;
+use version::SguVersion;
+
+fn version_of(number: u32) -> SguVersion
+    ensures { λ r. ⌜ r ≡ versionOf number ⌝ }
+{
+    match number {
+        0 => SguVersion::V1,
+        1 => SguVersion::V2,
+        2 => SguVersion::V2_1,
+        3 => SguVersion::V3,
+        _ => SguVersion::V3_1,
+    }
+}
+
+// The byte that a call answers; 0 where it was turned away.
+fn byte_of(answer: Answer) -> u8
+    ensures { λ r. ⌜ r ≡ byteOf answer ⌝ }
+{
+    match answer {
+        Answer::Byte(byte) => byte,
+        Answer::Done => 0,
+        Answer::Sample(_) => 0,
+        Answer::Count(_) => 0,
+        Answer::Flag(_) => 0,
+        Answer::RamLength => 0,
+        Answer::QueueBuffer => 0,
+        Answer::NotAccepted => 0,
+        Answer::StemBuffer => 0,
+    }
+}
+
+impl Player {
+    // A fresh V3.1 chip; its RAM is zeroed.
+    pub fn fresh(ram: &mut [u8]) -> Player
+        ensures { λ r. ⌜ r ≡ freshPlayer (length (now (ram .entry))) ⌝ }
+        ensures { λ _. ⌜ now (ram .exit) ≡ madeRam (now (ram .entry)) ⌝ }
+    {
+        let made = Chip::with_version(ram, SguVersion::V3_1);
+        let chip = made.chip;
+        Player {
+            chip,
+            left: 0,
+            right: 0,
+        }
+    }
+
+    fn with_chip(self, chip: Chip, end: usize) -> Played
+        ensures { λ r. ⌜ r .player ≡ withChip self chip ⌝ }
+        ensures { λ r. ⌜ r .end ≡ end ⌝ }
+    {
+        let player = Player {
+            chip,
+            left: self.left,
+            right: self.right,
+        };
+        Played { player, end }
+    }
+
+    // Frames mixed into two sides, and printed.
+    fn clock_over(
+        self,
+        ram: &[u8],
+        queues: &mut [i16],
+        left: &mut [i16],
+        right: &mut [i16],
+        out: &mut [u8],
+        at: usize,
+    ) -> Played
+        ensures { λ r. ⌜ r .player ≡ clocked self (now (ram .entry)) (now (queues .entry)) (now (left .entry)) (now (right .entry)) ⌝ }
+        ensures { λ _. ⌜ now (queues .exit) ≡ now (queues .entry) ⌝ }
+        ensures { λ r. ⌜ Put (now (out .entry)) (now (out .exit)) at (clockedText (self .chip) (now (ram .entry)) (now (queues .entry)) (now (left .entry)) (now (right .entry))) (r .end) ⌝ }
+    {
+        let chip = self.chip;
+        let called = chip.clock_mixed(ram, queues, &mut *left, &mut *right);
+        let next = called.chip;
+        let end = log::put_frames(out, at, left, right);
+        let player = Player {
+            chip: next,
+            left: log::peak(self.left, left),
+            right: log::peak(self.right, right),
+        };
+        Played { player, end }
+    }
+
+    fn clock(self, frames: u32, ram: &[u8], queues: &mut [i16], out: &mut [u8], at: usize) -> Played
+        ensures { λ r. ⌜ r .player ≡ clocked self (now (ram .entry)) (now (queues .entry)) (silent frames) (silent frames) ⌝ }
+        ensures { λ _. ⌜ now (queues .exit) ≡ now (queues .entry) ⌝ }
+        ensures { λ r. ⌜ Put (now (out .entry)) (now (out .exit)) at (clockedText (self .chip) (now (ram .entry)) (now (queues .entry)) (silent frames) (silent frames)) (r .end) ⌝ }
+    {
+        let mut left = [0i16; 1000];
+        let mut right = [0i16; 1000];
+        let n = num::least(frames as usize, 1000);
+        self.clock_over(ram, queues, &mut left[..n], &mut right[..n], out, at)
+    }
+
+    // Plays a line, puts what it prints into out from `at` on, as far as there is room, and answers the place behind it, at
+    // most out's end.
+    pub fn apply(
+        self,
+        line: Line,
+        ram: &mut [u8],
+        queues: &mut [i16],
+        out: &mut [u8],
+        at: usize,
+    ) -> Played
+        ensures { λ r. ⌜ r .player ≡ playerAfter (world self (now (ram .entry)) (now (queues .entry))) line ⌝ }
+        ensures { λ _. ⌜ now (ram .exit) ≡ ramAfter (world self (now (ram .entry)) (now (queues .entry))) line ⌝ }
+        ensures { λ _. ⌜ now (queues .exit) ≡ queuesAfter (world self (now (ram .entry)) (now (queues .entry))) line ⌝ }
+        ensures { λ r. ⌜ Put (now (out .entry)) (now (out .exit)) at (printed (world self (now (ram .entry)) (now (queues .entry))) line) (r .end) ⌝ }
+    {
+        let chip = self.chip;
+        let same = num::least(at, out.len());
+        match line {
+            Line::Write { address, value } => {
+                let called = chip.write_register(queues, address, value);
+                let next = called.chip;
+                self.with_chip(next, same)
+            }
+            Line::WriteRam { address, value } => {
+                let called = chip.write_pcm_ram(ram, address, value);
+                let next = called.chip;
+                self.with_chip(next, same)
+            }
+            Line::Read(address) => {
+                let called = chip.read_register(address);
+                let next = called.chip;
+                let answer = called.answer;
+                let end = log::put_read(out, at, address, byte_of(answer));
+                self.with_chip(next, end)
+            }
+            Line::Peek(address) => {
+                let answer = chip.peek_register(address);
+                let end = log::put_peek(out, at, address, byte_of(answer));
+                self.with_chip(chip, end)
+            }
+            Line::Clock(frames) => self.clock(frames, ram, queues, out, at),
+            Line::Version(number) => {
+                let called = chip.set_version(version_of(number));
+                let next = called.chip;
+                self.with_chip(next, same)
+            }
+            Line::Malformed => self.with_chip(chip, same),
+        }
+    }
+}

@@ -1,0 +1,91 @@
+// The lines of an input, one after the other.
+ghost use mathlib.Core.Path.{_≡_};
+ghost use mathlib.Core.Bool.{true};
+ghost use Prim.Native.Nat.{_+_, _-_, _<_, _^_};
+ghost use lib.ListN.{length, take, drop};
+ghost use Rattle.num.specs.Lists.{part};
+ghost use Rattle.log_player.specs.declared.Next.the-variants.{Rest};
+ghost use Rattle.log_player.specs.Worlds.{world};
+ghost use Rattle.log_player.specs.Steps.{nextOf};
+ghost use Rattle.log_player.specs.Runs.{Runs, ranTo};
+use crate::Next;
+use crate::Player;
+use crate::Ran;
+
+// Room for the text of any line: of 1,000 frames, 16 bytes each.
+const ROOM: usize = 16384;
+
+// Whether there is room behind `end` for a line's text, and a number for the line behind it.
+fn has_room(length: usize, end: usize, number: u64) -> bool
+    ensures { λ r. ⌜ (r ≡ true → number + 1 < 2 ^ 64) ⌝ }
+{
+    if number == 0xffff_ffff_ffff_ffff {
+        return false;
+    }
+    if length < end {
+        return false;
+    }
+    ROOM <= length - end
+}
+
+// Moves the bytes from `from` to before `to` to the front, as far as there are any, and answers how many there are.
+pub fn keep(input: &mut [u8], from: usize, to: usize) -> usize
+    ensures { λ r. ⌜ r ≡ length (part (now (input .entry)) from (to - from)) ⌝ }
+    ensures { λ r. ⌜ take r (now (input .exit)) ≡ part (now (input .entry)) from (to - from) ⌝ }
+{
+    let end = num::least(to, input.len());
+    let start = num::least(from, end);
+    let count = end - start;
+    let mut i = 0;
+    while i < count {
+        input[i] = input[start + i];
+        i += 1;
+    }
+    count
+}
+
+impl Player {
+    // Plays the lines from `from` on, of which the first is the log's line `number`, and puts what they print into out: until
+    // no whole line is left, a line is malformed, or out may have no room for the next line's text.
+    pub fn run(
+        self,
+        input: &[u8],
+        from: usize,
+        number: u64,
+        ram: &mut [u8],
+        queues: &mut [i16],
+        out: &mut [u8],
+    ) -> Ran
+        ensures { λ r. ⌜ Runs (world self (now (ram .entry)) (now (queues .entry))) number (drop from (now (input .entry))) (world (r .player) (now (ram .exit)) (now (queues .exit))) (r .number) (r .next) (drop (r .from) (now (input .entry))) (now (out .entry)) (now (out .exit)) (r .end) ⌝ }
+        ensures { λ r. ⌜ (r .next ≡ Rest → nextOf (drop (r .from) (now (input .entry))) (r .from) ≡ Rest) ⌝ }
+    {
+        let mut player = self;
+        let mut place = from;
+        let mut line = number;
+        let mut end = 0;
+        while has_room(out.len(), end, line) {
+            let stepped = player.step(input, place, line, &mut *ram, &mut *queues, &mut *out, end);
+            player = stepped.player;
+            end = stepped.end;
+            let next = stepped.next;
+            let Next::Line(behind) = next else {
+                return player.ran(next, place, line, end);
+            };
+            place = behind;
+            line += 1;
+        }
+        player.ran(Next::Line(place), place, line, end)
+    }
+
+    fn ran(self, next: Next, from: usize, number: u64, end: usize) -> Ran
+        ensures { λ r. ⌜ r ≡ ranTo self next from number end ⌝ }
+    {
+        Ran {
+            player: self,
+            next,
+            from,
+            number,
+            end,
+        }
+    }
+}

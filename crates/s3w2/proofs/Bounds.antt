@@ -1,0 +1,85 @@
+-- Where the sum of a frame's stems lies on a side. Assumes nothing beyond the ranges that the types give.
+use mathlib.Core.Path.{_≡_, subst}
+use mathlib.Core.Bool.{true}
+use mathlib.Core.List.{List, [], _∷_, _++_}
+use Prim.Native.Nat.{ℕ, zero, suc, _+_, _*_, _%_, _≤_}
+use native.Mathlib.Omega.{arith}
+use lib.IntN.{ℤ, pos}
+use lib.ListN.{length, getD}
+use Rattle.num.specs.Integers.{up, down}
+use Rattle.tone.specs.Sides.{Ticks}
+use Rattle.tone.proofs.Sides.{ticks-none, ticks-wider}
+use Rattle.version.specs.declared.SguVersion.{SguVersion}
+use Rattle.registers.specs.Queue.{FitEntries}
+use Rattle.ticks.specs.Mix.{silence}
+use Rattle.ticks.specs.declared.Sides.{Sides}
+use Rattle.ticks.proofs.Sums as sums
+use Rattle.voices.specs.declared.Core.{Core}
+use Rattle.frames.specs.Kept.{Bytes}
+use Rattle.frames.specs.Ticking.{voiced, voiceTicks}
+use Rattle.frames.specs.Turning.{Turns, turned, frame, frames}
+use Rattle.frames.proofs.Framing.{frames-turns}
+use Rattle.frames.proofs.Wells.{Well, turned-room}
+use Rattle.sides.specs.Sides.{sideSum}
+use Rattle.s3w2.specs.declared.Chip.{Chip}
+use Rattle.s3w2.specs.Refusals.{acceptsChip}
+use Rattle.s3w2.specs.Mixing.{Mix, mixed}
+use Rattle.s3w2.proofs.Kept.{FitChip, part-fits, mixed-well, chip-well}
+
+-- -131,072 to 131,040
+pub record Frame (z : ℤ) : Type 0 where
+  pub high : up z ≤ 131040
+  pub low : down z ≤ 131072
+
+abbrev Each : List ℤ → Type 0
+Each l = (i : ℕ) → Ticks 4 (getD l i (pos 0))
+
+none : Ticks 4 (pos 0)
+none = ticks-wider 0 4 (pos 0) (omega arith) ticks-none
+
+two : (left right : ℤ) → Ticks 4 left → Ticks 4 right → Each (left ∷ right ∷ [])
+two left right l r zero = l
+two left right l r (suc zero) = r
+two left right l r (suc (suc i)) = none
+
+after : (l r : List ℤ) → Each l → Each r → Each (l ++ r)
+after [] r e f i = f i
+after (x ∷ l) r e f zero = e zero
+after (x ∷ l) r e f (suc i) = after l r (λ j. e (suc j)) f i
+
+-- stems of four ticks each
+pub side-frame : (stems : List ℤ) → ((i : ℕ) → Ticks 4 (getD stems i (pos 0))) → (from : ℕ) → Frame (sideSum 8 stems from)
+unfolding sideSum
+side-frame stems e from =
+    let r = sums.frame (λ k. getD stems (from + 2 * k) (pos 0)) (λ k. e (from + 2 * k)) in
+    record { high = r .0; low = r .1 }
+
+module _ (version : SguVersion) (ram : List ℕ) (queues : List ℤ) (bytes : Bytes ram) (entries : FitEntries queues) where
+  module _ (n : ℕ) (low : 1 ≤ n) (high : n ≤ 4) (first : ℕ) (core : Core) (w : Well version (length ram) core) where
+    pub turned-ticks : (k i : ℕ) → Ticks 4 (getD (turned version ram queues first n k core .stems) i (pos 0))
+    unfolding turned
+    turned-ticks zero = λ i. none
+    turned-ticks (suc k) =
+        let s : Sides = voiceTicks version ram queues ((first + k) % 8) n (voiced (turned version ram queues first n k core .core) silence) .sides in
+        let r = turned-room version ram queues n low high bytes (λ ch. part-fits queues entries (ch * 2048) 2048) first core w k in
+        after (turned version ram queues first n k core .stems) (s .left ∷ s .right ∷ []) (turned-ticks k) (two (s .left) (s .right) (r .lefts) (r .rights))
+
+  -- a frame's side before clamping: hand 0 is the left one, 1 the right one
+  pub frame-side : (core : Core) → Well version (length ram) core → (hand : ℕ) → Frame (sideSum 8 (frame version ram queues core .stems) hand)
+  frame-side core w hand = side-frame (frame version ram queues core .stems) (turned-ticks 4 (omega arith) (omega arith) 0 core w 8) hand
+
+  -- the same of each of m frames
+  pub frames-side : (core : Core) → Well version (length ram) core → (m from : ℕ) → Frame (sideSum 8 (frames version ram queues m core .stems) from)
+  frames-side core w m from =
+      subst (λ (t : Turns). Frame (sideSum 8 (t .stems) from)) (frames-turns version ram queues core m)
+      (side-frame (turned version ram queues 0 4 (8 * m) core .stems) (turned-ticks 4 (omega arith) (omega arith) 0 core w (8 * m)) from)
+
+  -- the frame that is mixed after n others
+  pub mixed-side : (plus : ℤ → ℤ → ℤ) (start : Mix) → Well version (length ram) (start .core) → (n hand : ℕ)
+      → Frame (sideSum 8 (frame version ram queues (mixed plus version ram queues n start .core) .stems) hand)
+  mixed-side plus start w n hand = frame-side (mixed plus version ram queues n start .core) (mixed-well version ram queues bytes entries plus start w n) hand
+
+-- a frame of an accepted chip
+pub chip-side : (chip : Chip) (ram : List ℕ) (queues : List ℤ) → acceptsChip chip (length ram) ≡ true → FitChip chip → Bytes ram → FitEntries queues → (hand : ℕ)
+    → Frame (sideSum 8 (frame (chip .version) ram queues (chip .core) .stems) hand)
+chip-side chip ram queues ok fits bytes entries hand = frame-side (chip .version) ram queues bytes entries (chip .core) (chip-well chip ram queues ok fits bytes entries) hand
