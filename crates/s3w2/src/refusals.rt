@@ -2,7 +2,8 @@
 ghost use mathlib.Core.Path.{_≡_};
 ghost use lib.Dec.{eqb};
 ghost use Prim.Native.Nat.{_*_};
-ghost use Rattle.s3w2.specs.Answers.{isDone};
+ghost use lib.ListN.{getD};
+ghost use Rattle.s3w2.specs.Answers.{isDone, numberOf};
 ghost use Rattle.s3w2.specs.Refusals.{acceptsChip, ownRefusal, ramRefusal, queuesRefusal, soundRefusal, clockRefusal};
 use crate::Answer;
 use crate::Chip;
@@ -35,6 +36,25 @@ fn is_stem_buffer(length: usize, frames: usize) -> bool
         return false;
     }
     length / 16 == frames
+}
+
+impl Answer {
+    // Document 01's number of a refusal; 0 where it is none.
+    pub fn number(self) -> u8
+        ensures { λ r. ⌜ r ≡ getD (numberOf self) 0 0 ⌝ }
+    {
+        match self {
+            Answer::Done => 0,
+            Answer::Byte(_) => 0,
+            Answer::Sample(_) => 0,
+            Answer::Count(_) => 0,
+            Answer::Flag(_) => 0,
+            Answer::RamLength => 1,
+            Answer::QueueBuffer => 2,
+            Answer::NotAccepted => 3,
+            Answer::StemBuffer => 14,
+        }
+    }
 }
 
 impl Chip {
