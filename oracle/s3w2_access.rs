@@ -1,5 +1,5 @@
 
-// Added to the copied module by oracle/build: what the driver s3w2_script.rs needs of its private fields.
+// Added to the copied module by oracle/build: what the drivers s3w2_script.rs and s3w2_log.rs need of its private fields.
 impl Channel {
     /// The fields of a D line: the state, the cache, then wavetable, queue and decoded fragments.
     pub fn shown(&self) -> Vec<i128> {

@@ -1,4 +1,6 @@
-// Document 01's log program, played on the original chip: reads a log from standard input, prints what `s3w2-log` prints.
+// Document 01's log program, played on the original chip: reads a log from standard input, prints what `s3w2-log` prints. With
+// `--save` it prints what `s3w2-save` prints; with `--after N` what `s3w2-load` prints of the lines behind the first N, on the state
+// in which those leave the chip.
 mod sgu {
     pub mod s3w2;
     pub mod sqv4;
@@ -53,18 +55,42 @@ impl Player {
     }
 }
 
+/// Document 01's session text, then the RAM.
+fn save(chip: &S3w2Sound, out: &mut impl Write) {
+    writeln!(out, "S3W2,{}", chip.version as u8).unwrap();
+    for (ch, channel) in chip.channels.iter().enumerate() {
+        // the fields up to the latch, the cache, then wavetable, queue count, queue
+        let fields = channel.shown();
+        let end = 293 + fields[292] as usize;
+        let line: Vec<String> = fields[..24].iter().chain(&fields[36..end]).map(i128::to_string).collect();
+        writeln!(out, "{ch},{}", line.join(",")).unwrap();
+    }
+    out.write_all(&chip.pcm_ram.borrow()).unwrap();
+}
+
 fn main() {
+    let words: Vec<String> = std::env::args().skip(1).collect();
+    let saves = words == ["--save"];
+    let silent: usize = if words.len() == 2 && words[0] == "--after" { words[1].parse().unwrap() } else { 0 };
     let mut text = Vec::new();
     std::io::stdin().read_to_end(&mut text).unwrap();
     let mut out = BufWriter::new(std::io::stdout().lock());
     let ram = std::rc::Rc::new(std::cell::RefCell::new(vec![0; PCM_RAM_SIZE]));
     let mut player = Player { chip: S3w2Sound::with_version(ram, SguVersion::V3_1), peak: (0, 0) };
-    for (k, line) in text.split_inclusive(|&b| b == 10).enumerate() {
+    let mut lines = text.split_inclusive(|&b| b == 10);
+    for line in lines.by_ref().take(silent) {
+        player.play(line.strip_suffix(b"\n").unwrap(), &mut std::io::sink()).unwrap();
+    }
+    player.peak = (0, 0);
+    for (k, line) in lines.enumerate() {
         let played = line.strip_suffix(b"\n").and_then(|line| player.play(line, &mut out));
         if played.is_none() {
             writeln!(out, "bad,{},17", k + 1).unwrap();
             return;
         }
+    }
+    if saves {
+        return save(&player.chip, &mut out);
     }
     writeln!(out, "peak,{},{}", player.peak.0, player.peak.1).unwrap();
 }

@@ -1,3 +1,4 @@
 pub mod Commas
 pub mod Texts
 pub mod Long
+pub mod Bytes

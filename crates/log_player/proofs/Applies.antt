@@ -7,6 +7,7 @@ use lib.IntN.{ℤ, pos}
 use lib.ListN.{length, take, replicate}
 use Rattle.decimal.specs.Written.{Put}
 use Rattle.decimal.proofs.Writing.{put-none}
+use Rattle.version.specs.Versions.{versionOf}
 use Rattle.version.specs.declared.SguVersion.{SguVersion}
 use Rattle.log.specs.declared.Line.{Line}
 use Rattle.log.specs.declared.Line.the-variants.{Write, WriteRam, Read, Peek, Clock, Version, Malformed}
@@ -19,7 +20,7 @@ use Rattle.s3w2.specs.Registers.{writeRegisterCalled, writeRegisterBuffer, read
 use Rattle.s3w2.specs.Mixing.{clockMixedCalled, clockMixedLeft, clockMixedRight}
 use Rattle.log_player.specs.declared.Player.{Player}
 use Rattle.log_player.specs.Worlds.{World, withChip}
-use Rattle.log_player.specs.Applied.{versionOf, byteOf, clocked, clockedText, silent, playerAfter, ramAfter, queuesAfter, printed}
+use Rattle.log_player.specs.Applied.{byteOf, clocked, clockedText, silent, playerAfter, ramAfter, queuesAfter, printed}
 
 -- what `apply` promises
 abbrev pub Applied : World → Line → Player → List ℕ → List ℤ → List ℕ → List ℕ → ℕ → ℕ → Type 0

@@ -5,8 +5,7 @@ use Prim.Native.Nat.{ℕ, min}
 use lib.Dec.{eqb}
 use lib.IntN.{ℤ, pos}
 use lib.ListN.{length, replicate}
-use Rattle.version.specs.declared.SguVersion.{SguVersion}
-use Rattle.version.specs.declared.SguVersion.the-variants.{V1, V2, «V2_1», V3, «V3_1»}
+use Rattle.version.specs.Versions.{versionOf}
 use Rattle.log.specs.declared.Line.{Line}
 use Rattle.log.specs.declared.Line.the-variants.{Write, WriteRam, Read, Peek, Clock, Version, Malformed}
 use Rattle.log.specs.Texts.{frameLines, readLine, peakOf}
@@ -19,10 +18,6 @@ use Rattle.s3w2.specs.Registers.{writeRegisterCalled, writeRegisterBuffer, read
 use Rattle.s3w2.specs.Mixing.{clockMixedCalled, clockMixedLeft, clockMixedRight}
 use Rattle.log_player.specs.declared.Player.{Player}
 use Rattle.log_player.specs.Worlds.{World, world, withChip}
-
--- the versions by their numbers
-abbrev pub versionOf : ℕ → SguVersion
-versionOf n = cond (eqb n 0) V1 (cond (eqb n 1) V2 (cond (eqb n 2) «V2_1» (cond (eqb n 3) V3 «V3_1»)))
 
 -- the byte that a call answers; 0 where it was turned away
 abbrev pub byteOf : Answer → ℕ

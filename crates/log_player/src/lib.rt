@@ -5,6 +5,7 @@ mod steps;
 
 pub use runs::keep;
 use s3w2::Chip;
+pub use steps::line_end;
 
 // A chip, and the largest absolute frame values that it has given.
 pub struct Player {

@@ -4,25 +4,13 @@ ghost use lib.ListN.{length};
 ghost use Rattle.decimal.specs.Written.{Put};
 ghost use Rattle.s3w2.specs.Fresh.{madeRam};
 ghost use Rattle.log_player.specs.Worlds.{world, withChip, freshPlayer};
-ghost use Rattle.log_player.specs.Applied.{versionOf, byteOf, clocked, clockedText, silent, playerAfter, ramAfter, queuesAfter, printed};
+ghost use Rattle.log_player.specs.Applied.{byteOf, clocked, clockedText, silent, playerAfter, ramAfter, queuesAfter, printed};
 use crate::Played;
 use crate::Player;
 use log::Line;
 use s3w2::Answer;
 use s3w2::Chip;
 use version::SguVersion;
-
-fn version_of(number: u32) -> SguVersion
-    ensures { λ r. ⌜ r ≡ versionOf number ⌝ }
-{
-    match number {
-        0 => SguVersion::V1,
-        1 => SguVersion::V2,
-        2 => SguVersion::V2_1,
-        3 => SguVersion::V3,
-        _ => SguVersion::V3_1,
-    }
-}
 
 // The byte that a call answers; 0 where it was turned away.
 fn byte_of(answer: Answer) -> u8
@@ -147,7 +135,7 @@ impl Player {
             }
             Line::Clock(frames) => self.clock(frames, ram, queues, out, at),
             Line::Version(number) => {
-                let called = chip.set_version(version_of(number));
+                let called = chip.set_version(SguVersion::numbered(number as u64));
                 let next = called.chip;
                 self.with_chip(next, same)
             }

@@ -1,6 +1,6 @@
 // The next line of an input, and the end of one.
 ghost use mathlib.Core.Path.{_≡_};
-ghost use Prim.Native.Nat.{_+_, _≤_};
+ghost use Prim.Native.Nat.{_+_};
 ghost use lib.ListN.{length, drop};
 ghost use Rattle.decimal.specs.Written.{Put};
 ghost use Rattle.log_player.specs.Worlds.{world};
@@ -11,9 +11,8 @@ use crate::Player;
 use crate::Stepped;
 use log::Line;
 
-// The place of the first byte 10 from `from` on; the input's end where there is none.
-fn line_end(input: &[u8], from: usize) -> usize
-    requires { ⌜ from ≤ length (now input) ⌝ }
+// The place of the first byte 10 from `from` on; the input's end where there is none, and `from` where that is past it.
+pub fn line_end(input: &[u8], from: usize) -> usize
     ensures { λ r. ⌜ r ≡ from + length (firstLine (drop from (now (input .entry)))) ⌝ }
 {
     let mut i = from;

@@ -12,16 +12,6 @@ struct Summed {
     right: u64,
 }
 
-fn version_of(number: u32) -> SguVersion {
-    match number {
-        0 => SguVersion::V1,
-        1 => SguVersion::V2,
-        2 => SguVersion::V2_1,
-        3 => SguVersion::V3,
-        _ => SguVersion::V3_1,
-    }
-}
-
 fn applied(chip: Chip, line: Line, ram: &mut [u8], queues: &mut [i16]) -> Chip {
     match line {
         Line::Write { address, value } => {
@@ -33,7 +23,7 @@ fn applied(chip: Chip, line: Line, ram: &mut [u8], queues: &mut [i16]) -> Chip {
             called.chip
         }
         Line::Version(number) => {
-            let called = chip.set_version(version_of(number));
+            let called = chip.set_version(SguVersion::numbered(number as u64));
             called.chip
         }
         Line::Read(_) => chip,

@@ -106,14 +106,7 @@ pub fn signed_word(f: &[u64], k: usize) -> i32 {
 }
 
 pub fn version(f: &[u64], k: usize) -> SguVersion {
-    let n = long(f, k);
-    match n {
-        0 => SguVersion::V1,
-        1 => SguVersion::V2,
-        2 => SguVersion::V2_1,
-        3 => SguVersion::V3,
-        _ => SguVersion::V3_1,
-    }
+    SguVersion::numbered(long(f, k))
 }
 
 // ---- an answer's fields, each after a comma

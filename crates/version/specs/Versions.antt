@@ -1,5 +1,5 @@
 -- What the versions have.
-use mathlib.Core.Bool.{Bool, true, false}
+use mathlib.Core.Bool.{Bool, true, false, cond}
 use Prim.Native.Nat.{ℕ}
 use lib.Dec.{eqb}
 use Rattle.num.specs.Bits.{bit}
@@ -14,6 +14,10 @@ versionNumber V2 = 1
 versionNumber «V2_1» = 2
 versionNumber V3 = 3
 versionNumber «V3_1» = 4
+
+-- the version of a number
+abbrev pub versionOf : ℕ → SguVersion
+versionOf n = cond (eqb n 0) V1 (cond (eqb n 1) V2 (cond (eqb n 2) «V2_1» (cond (eqb n 3) V3 «V3_1»)))
 
 abbrev pub coreCount : SguVersion → ℕ
 coreCount V1 = 1

@@ -1,6 +1,6 @@
 // What the versions have.
 ghost use mathlib.Core.Path.{_≡_};
-ghost use Rattle.version.specs.Versions.{versionNumber, coreCount, has3ws8pna, has34si22, hasSampleControl, interpolates as interpolatesAt, wavetableMaskOf};
+ghost use Rattle.version.specs.Versions.{versionNumber, versionOf, coreCount, has3ws8pna, has34si22, hasSampleControl, interpolates as interpolatesAt, wavetableMaskOf};
 use crate::SguVersion;
 
 impl SguVersion {
@@ -14,6 +14,19 @@ impl SguVersion {
             SguVersion::V2_1 => 2,
             SguVersion::V3 => 3,
             SguVersion::V3_1 => 4,
+        }
+    }
+
+    // The version of a number; above 4 it is V3.1.
+    pub fn numbered(number: u64) -> SguVersion
+        ensures { λ r. ⌜ r ≡ versionOf number ⌝ }
+    {
+        match number {
+            0 => SguVersion::V1,
+            1 => SguVersion::V2,
+            2 => SguVersion::V2_1,
+            3 => SguVersion::V3,
+            _ => SguVersion::V3_1,
         }
     }
 

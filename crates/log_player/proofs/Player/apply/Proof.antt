@@ -64,8 +64,11 @@ clock-requires c κs = search needs
 enum-known-line-6 : tie.Need-enum-known-line-6
 enum-known-line-6 c = search needs
 
-version-of-requires : tie.Need-version-of-requires
-version-of-requires c κs = search needs
+cast-numbered : tie.Need-cast-numbered
+cast-numbered c = search needs
+
+numbered-requires : tie.Need-numbered-requires
+numbered-requires c κs = search needs
 
 set-version-requires : tie.Need-set-version-requires
 set-version-requires c κs = search needs
@@ -116,7 +119,7 @@ returns-5 : tie.Need-returns-5
 returns-5 c = clock-line (world (c .before .before .before .before .before .before .before .before .before .before .before .before .before .before .args .self) (c .before .before .before .before .before .before .before .before .before .before .before .before .before .before .args .ram .now) (c .before .before .before .before .before .before .before .before .before .before .before .before .before .before .args .queues .now)) _ _ _ _ _ _ _ _ (c .before .before .before .before .before .before .before .before .line5 .given .1) (c .before .before .before .clock .ensures .0) (c .before .before .before .clock .ensures .1 .0) (c .before .before .before .clock .ensures .1 .1)
 
 returns-6 : tie.Need-returns-6
-returns-6 c = version-line (world (c .before .before .before .before .before .before .before .before .before .before .before .args .self) (c .before .before .before .before .before .before .before .before .before .before .before .args .ram .now) (c .before .before .before .before .before .before .before .before .before .before .before .args .queues .now)) _ _ _ _ _ _ _ _ _ (c .before .before .before .before .before .line6 .given .1) (c .before .before .before .version-of .ensures) (c .before .before .set-version .ensures) (c .with-chip5 .ensures .0) (c .before .before .before .before .before .before .before .least .ensures) (c .with-chip5 .ensures .1)
+returns-6 c = version-line (world (c .before .before .before .before .before .before .before .before .before .before .before .args .self) (c .before .before .before .before .before .before .before .before .before .before .before .args .ram .now) (c .before .before .before .before .before .before .before .before .before .before .before .args .queues .now)) _ _ _ _ _ _ _ _ _ (c .before .before .before .before .before .line6 .given .1) (c .before .before .before .numbered .ensures) (c .before .before .set-version .ensures) (c .with-chip5 .ensures .0) (c .before .before .before .before .before .before .before .least .ensures) (c .with-chip5 .ensures .1)
 
 returns-7 : tie.Need-returns-7
 returns-7 c = bad-line (world (c .before .before .before .before .before .before .before .args .self) (c .before .before .before .before .before .before .before .args .ram .now) (c .before .before .before .before .before .before .before .args .queues .now)) _ _ _ _ _ _ (c .before .enum-told .given .1) (c .with-chip6 .ensures .0) (c .before .before .before .least .ensures) (c .with-chip6 .ensures .1)
@@ -145,7 +148,8 @@ apply-spec =
     enum-known-line-5
     clock-requires
     enum-known-line-6
-    version-of-requires
+    cast-numbered
+    numbered-requires
     set-version-requires
     with-chip-requires-5
     enum-told

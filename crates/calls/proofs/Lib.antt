@@ -1,0 +1,4 @@
+pub mod Mixing
+pub mod Steps
+pub mod Loads
+pub mod Resumes

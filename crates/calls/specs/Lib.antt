@@ -1,0 +1,5 @@
+pub mod Runs
+pub mod Mixing
+pub mod Texts
+pub mod Calls
+pub mod Seen

@@ -1,0 +1,1 @@
+// Demand 3: resumes and the plain chip. Definitions and proofs only.

@@ -1,0 +1,62 @@
+// The programs over a log. Here bytes are only read, moved and written; what is printed is log_player's and log_state's.
+mod loading;
+mod moving;
+mod playing;
+mod saving;
+
+use log_player::Player;
+
+pub(crate) enum Program {
+    Log,
+    Save,
+    Load,
+}
+
+// A run of a program: the bytes of the input buffer from `from` to before `filled` are not played yet, and begin with line
+// `number`.
+pub(crate) struct Run {
+    pub player: Player,
+    pub from: usize,
+    pub filled: usize,
+    pub number: u64,
+    pub going: bool,
+}
+
+fn with_buffers(program: Program, ram: &mut [u8], queues: &mut [i16]) {
+    let mut input = io::large_buffer();
+    let mut text = io::large_buffer();
+    let fresh = playing::begun(&mut *ram);
+    match program {
+        Program::Log => playing::play(program, fresh, &mut input, &mut text, ram, queues),
+        Program::Save => playing::play(program, fresh, &mut input, &mut text, ram, queues),
+        Program::Load => {
+            let loaded = loading::load_state(fresh, &mut input, &mut text, &mut *ram, &mut *queues);
+            playing::play(program, loaded, &mut input, &mut text, ram, queues)
+        }
+    }
+}
+
+fn with_queues(program: Program, queues: &mut [i16]) {
+    let mut ram = io::large_buffer();
+    with_buffers(program, &mut ram, queues);
+}
+
+fn start(program: Program) {
+    let mut queues = [0i16; 16384];
+    with_queues(program, &mut queues);
+}
+
+// Plays the log on standard input and prints what it gives on standard output.
+pub fn play_log() {
+    start(Program::Log);
+}
+
+// The same, and instead of the peaks the state in which the log leaves the player.
+pub fn save_log() {
+    start(Program::Save);
+}
+
+// Reads such a state, and goes on with the log behind it.
+pub fn load_log() {
+    start(Program::Load);
+}

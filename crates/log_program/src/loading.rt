@@ -1,0 +1,180 @@
+// A state read from standard input.
+use crate::Program;
+use crate::Run;
+use crate::moving::Input;
+use crate::moving::read_behind;
+use crate::moving::written;
+use crate::playing::stopped;
+use log_player::Player;
+use log_state::Found;
+use session::LineAnswer;
+
+// A state of which the lines before line k were read: the bytes of the input buffer from `from` to before `filled` follow them.
+struct Load {
+    player: Player,
+    from: usize,
+    filled: usize,
+    k: usize,
+    going: bool,
+}
+
+fn refused(player: Player) -> Load {
+    Load {
+        player,
+        from: 0,
+        filled: 0,
+        k: 9,
+        going: false,
+    }
+}
+
+// Reads line k from a text that ends at `behind` in the input buffer.
+fn take(
+    load: Load,
+    line: &[u8],
+    behind: usize,
+    filled: usize,
+    text: &mut [u8],
+    queues: &mut [i16],
+) -> Load {
+    let player = load.player;
+    let k = num::least(load.k, 8);
+    let taken = log_state::take_line(player, queues, k, line);
+    let after = taken.player;
+    let answer = taken.answer;
+    let LineAnswer::Done = answer else {
+        let end = log_state::put_refusal(answer, &mut *text, 0);
+        written(Program::Load, text, end);
+        return refused(after);
+    };
+    Load {
+        player: after,
+        from: behind,
+        filled,
+        k: k + 1,
+        going: true,
+    }
+}
+
+// Goes on with more input behind the bytes before `end`; where there is none, or no room for any, they are the line.
+fn extend(load: Load, end: usize, input: &mut [u8], text: &mut [u8], queues: &mut [i16]) -> Load {
+    let player = load.player;
+    let kept = log_player::keep(&mut *input, load.from, end);
+    let read = read_behind(Program::Load, &mut *input, kept);
+    match read {
+        Input::More(more) => Load {
+            player,
+            from: 0,
+            filled: more,
+            k: load.k,
+            going: true,
+        },
+        Input::End => {
+            let line = num::part(input, 0, kept);
+            take(load, line, kept, kept, text, queues)
+        }
+        Input::Failed => refused(player),
+    }
+}
+
+// Looks for line k.
+fn look(load: Load, input: &mut [u8], text: &mut [u8], queues: &mut [i16]) -> Load {
+    let player = load.player;
+    let from = load.from;
+    let filled = load.filled;
+    let found = log_state::find(num::part(input, 0, filled), from, load.k);
+    match found {
+        Found::Line(behind) => {
+            let line = num::part(input, from, behind);
+            take(load, line, behind, filled, text, queues)
+        }
+        Found::Sound(behind) => Load {
+            player,
+            from: behind,
+            filled,
+            k: load.k,
+            going: true,
+        },
+        Found::Open(end) => extend(load, end, input, text, queues),
+    }
+}
+
+// Reads the nine lines.
+fn load_lines(first: Load, input: &mut [u8], text: &mut [u8], queues: &mut [i16]) -> Load {
+    let mut load = first;
+    let mut turns: u64 = 0xffff_ffff_ffff_ffff;
+    while 0 < turns {
+        if load.k < 9 {
+            load = look(load, &mut *input, &mut *text, &mut *queues);
+            turns -= 1;
+        } else {
+            turns = 0;
+        }
+    }
+    load
+}
+
+// Reads on until the RAM, of which `have` bytes are there, is full: how many there are then.
+fn fill(ram: &mut [u8], have: usize) -> Input {
+    let mut got = have;
+    let mut turns = ram.len();
+    while 0 < turns {
+        if ram.len() <= got {
+            return Input::More(got);
+        }
+        let read = read_behind(Program::Load, &mut *ram, got);
+        let Input::More(more) = read else {
+            return read;
+        };
+        got = more;
+        turns -= 1;
+    }
+    Input::More(got)
+}
+
+// Reads the RAM behind the lines.
+fn load_ram(load: Load, input: &[u8], text: &mut [u8], ram: &mut [u8]) -> Run {
+    let player = load.player;
+    let from = load.from;
+    let filled = load.filled;
+    let got = decimal::put_text(&mut *ram, 0, num::part(input, from, filled));
+    let read = fill(ram, got);
+    match read {
+        Input::More(_) => Run {
+            player,
+            from: num::least(from, input.len()) + got,
+            filled,
+            number: 1,
+            going: true,
+        },
+        Input::End => {
+            let end = log_state::put_short(&mut *text, 0);
+            written(Program::Load, text, end);
+            stopped(player)
+        }
+        Input::Failed => stopped(player),
+    }
+}
+
+// Reads a state into a fresh player; the run goes on where that could be done.
+pub(crate) fn load_state(
+    fresh: Run,
+    input: &mut [u8],
+    text: &mut [u8],
+    ram: &mut [u8],
+    queues: &mut [i16],
+) -> Run {
+    let player = fresh.player;
+    let first = Load {
+        player,
+        from: 0,
+        filled: 0,
+        k: 0,
+        going: true,
+    };
+    let loaded = load_lines(first, &mut *input, &mut *text, queues);
+    if loaded.going {
+        return load_ram(loaded, input, text, ram);
+    }
+    stopped(player)
+}

@@ -1,0 +1,145 @@
+// A log played from standard input.
+use crate::Program;
+use crate::Run;
+use crate::moving::Input;
+use crate::moving::read_behind;
+use crate::moving::written;
+use crate::saving::save;
+use log_player::Next;
+use log_player::Player;
+use log_player::Ran;
+
+// A fresh player, nothing read.
+pub(crate) fn begun(ram: &mut [u8]) -> Run {
+    Run {
+        player: Player::fresh(ram),
+        from: 0,
+        filled: 0,
+        number: 1,
+        going: true,
+    }
+}
+
+pub(crate) fn stopped(player: Player) -> Run {
+    Run {
+        player,
+        from: 0,
+        filled: 0,
+        number: 1,
+        going: false,
+    }
+}
+
+// Whether a state follows the last line of a log, behind whose byte 10 `rest` bytes are left.
+fn saves(program: Program, rest: usize) -> bool {
+    match program {
+        Program::Log => false,
+        Program::Save => rest == 0,
+        Program::Load => false,
+    }
+}
+
+// Prints what follows the last line: the peaks, or the state.
+fn end(program: Program, ran: Ran, rest: usize, text: &mut [u8], ram: &[u8], queues: &[i16]) {
+    let player = ran.player;
+    if saves(program, rest) {
+        save(player, text, ram, queues);
+    } else {
+        let end = player.finish(rest, ran.number, &mut *text, 0);
+        written(program, text, end);
+    }
+}
+
+// Goes on with more input, or ends the text where there is none.
+fn refilled(
+    program: Program,
+    ran: Ran,
+    filled: usize,
+    input: &mut [u8],
+    text: &mut [u8],
+    ram: &[u8],
+    queues: &[i16],
+) -> Run {
+    let player = ran.player;
+    let kept = log_player::keep(&mut *input, ran.from, filled);
+    let read = read_behind(program, input, kept);
+    match read {
+        Input::More(more) => Run {
+            player,
+            from: 0,
+            filled: more,
+            number: ran.number,
+            going: true,
+        },
+        Input::End => {
+            end(program, ran, kept, text, ram, queues);
+            stopped(player)
+        }
+        Input::Failed => stopped(player),
+    }
+}
+
+// Plays what stands in the input buffer and writes what it prints.
+fn turn(
+    program: Program,
+    run: Run,
+    input: &mut [u8],
+    text: &mut [u8],
+    ram: &mut [u8],
+    queues: &mut [i16],
+) -> Run {
+    let filled = run.filled;
+    let player = run.player;
+    let ran = player.run(
+        num::part(input, 0, filled),
+        run.from,
+        run.number,
+        &mut *ram,
+        &mut *queues,
+        &mut *text,
+    );
+    let after = ran.player;
+    if !written(program, &*text, ran.end) {
+        return stopped(after);
+    }
+    let next = ran.next;
+    match next {
+        Next::Line(_) => Run {
+            player: after,
+            from: ran.from,
+            filled,
+            number: ran.number,
+            going: true,
+        },
+        Next::Rest => refilled(program, ran, filled, input, text, ram, queues),
+        Next::Bad => stopped(after),
+    }
+}
+
+// Plays on from a run.
+pub(crate) fn play(
+    program: Program,
+    first: Run,
+    input: &mut [u8],
+    text: &mut [u8],
+    ram: &mut [u8],
+    queues: &mut [i16],
+) {
+    let mut run = first;
+    let mut turns: u64 = 0xffff_ffff_ffff_ffff;
+    while 0 < turns {
+        if run.going {
+            run = turn(
+                program,
+                run,
+                &mut *input,
+                &mut *text,
+                &mut *ram,
+                &mut *queues,
+            );
+            turns -= 1;
+        } else {
+            turns = 0;
+        }
+    }
+}

@@ -1,0 +1,4 @@
+pub mod Lines
+pub mod Fresh
+pub mod Cuts
+pub mod Loads

@@ -1,0 +1,132 @@
+-- A state that is written, and read into a fresh player, line by line, is the one from which a cut log goes on. Assumes nothing.
+use mathlib.Core.Path.{_≡_, refl, sym, ap, ap₂, _∙_}
+use mathlib.Core.List.{List, [], _∷_, _++_, map, append-assoc}
+use Prim.Native.Nat.{ℕ, zero, suc, _+_, _≤_, _<_}
+use native.Mathlib.Omega.{arith}
+use lib.IntN.{ℤ, pos}
+use lib.ListN.{replicate}
+use Rattle.version.specs.declared.SguVersion.{SguVersion}
+use Rattle.voice_line.specs.Lines.{ReadVoice, voice, malformed, readVoice}
+use Rattle.s3w2.specs.declared.Chip.{Chip}
+use Rattle.session.specs.declared.LineAnswer.the-variants.{Done}
+use Rattle.session.specs.declared.LineCalled.{LineCalled}
+use Rattle.session.specs.Heads.{readHeadCalled}
+use Rattle.session.specs.Voices.{lineOf, voiceCalled, readVoiceCalled, readVoiceQueues}
+use Rattle.session.proofs.Lines.{goes-on}
+use Rattle.plain.specs.Voices.{PlainVoice, plainOf}
+use Rattle.plain.proofs.Loads.{fit-plain}
+use Rattle.world.specs.Whole.{row, slotAt}
+use Rattle.world.proofs.Frames.{ok-at}
+use Rattle.calls.specs.Runs.{after}
+use Rattle.calls.specs.Texts as texts
+use Rattle.calls.specs.Texts.{VoiceRead}
+use Rattle.calls.specs.Calls as list
+use Rattle.told.specs.Session.{voiceRead}
+use Rattle.told.proofs.Read.{session-is-ok}
+use Rattle.told.proofs.Written.{text-plain}
+use Rattle.ties.specs.Ties.{Machine, Held}
+use Rattle.ties.specs.Code.{code}
+use Rattle.ties.proofs.Accepting.{state-accepted}
+use Rattle.ties.proofs.Every.{tied}
+use Rattle.resume.specs.Stops.{Second}
+use Rattle.resume.proofs.Steps.{HeldMachine}
+use Rattle.resume.proofs.Second.{headedChip, head-called, headed-held, read-on}
+use Rattle.log_player.specs.declared.Player.{Player}
+use Rattle.log_player.specs.Worlds.{World, withChip, freshPlayer}
+use Rattle.log_state.specs.declared.Taken.{Taken}
+use Rattle.log_state.specs.Lines.{stateLine, stateLines, stateText, takeLine, takeLineQueues}
+use Rattle.log_state.specs.Loads.{Load, readLines}
+use Rattle.log_state.specs.Loads as load
+use Rattle.log_state.proofs.Stated.{state-ended, read-next, take-head, take-head-queues, take-voice, take-voice-queues, head-line, voice-line}
+use Rattle.log_resume.specs.Cuts.{machineOf, fresh, loaded}
+use Rattle.log_resume.proofs.Fresh.{fresh-second}
+
+-- a line that tells of a voice is read, and the version stays
+done-of : (c : Chip) (r : ReadVoice) (ch : ℕ) (v : PlainVoice) → voiceRead r ≡ texts.voice ch v → voiceCalled c r .answer ≡ Done
+done-of c (voice x) ch v e = refl
+done-of c (malformed field) ch v e = absurd (let z : _≡_ {A = ℕ} 0 1 = cc in omega arith)
+
+version-of : (c : Chip) (r : ReadVoice) → voiceCalled c r .chip .version ≡ c .version
+version-of c (voice x) = refl
+version-of c (malformed field) = refl
+
+module _ (w : World) (h : HeldMachine (machineOf w)) where
+  abbrev chip : Chip
+  chip = w .player .chip
+
+  abbrev version : SguVersion
+  version = chip .version
+
+  abbrev line : ℕ → List ℕ
+  line i = lineOf chip (w .queues) i
+
+  reads : (i : ℕ) → i < 8 → voiceRead (readVoice version (line i)) ≡ texts.voice i (plainOf (slotAt (chip .core) (w .queues) i))
+  unfolding lineOf
+  reads i l =
+      let s = slotAt (chip .core) (w .queues) i in
+      let ok = ok-at version (w .ram) (chip .core) (w .queues) (h .good .voices) i l in
+      ap (λ (t : List ℕ). voiceRead (readVoice version t)) (text-plain version (w .ram) s ok i)
+      ∙ session-is-ok .voice-back version i (plainOf s) l (fit-plain version (w .ram) s ok)
+
+  -- ---- a chip of the same version reads a voice's line
+  module _ (c : Chip) (q : List ℤ) (g : Held c (w .ram) q) (e : c .version ≡ version) (i : ℕ) (l : i < 8) where
+    called-is : readVoiceCalled c q (line i) ≡ voiceCalled c (readVoice (c .version) (line i))
+    unfolding readVoiceCalled
+    called-is = sym (goes-on c q _ _ _ (g .long) (state-accepted c (w .ram) q g))
+
+    is-done : readVoiceCalled c q (line i) .answer ≡ Done
+    is-done =
+        ap (λ (x : LineCalled). x .answer) called-is
+        ∙ done-of c (readVoice (c .version) (line i)) i _ (ap (λ (v : SguVersion). voiceRead (readVoice v (line i))) e ∙ reads i l)
+
+    still : readVoiceCalled c q (line i) .chip .version ≡ version
+    still = ap (λ (x : LineCalled). x .chip .version) called-is ∙ version-of c (readVoice (c .version) (line i)) ∙ e
+
+    held : Held (readVoiceCalled c q (line i) .chip) (w .ram) (readVoiceQueues c q (line i))
+    unfolding code
+    held = tied (record { chip = c; ram = w .ram; queues = q }) g (list.readVoice (line i)) tt .held
+
+  -- ---- the lines from voice i on
+  abbrev at : Player → List ℤ → Machine
+  at p q = record { chip = p .chip; ram = w .ram; queues = q }
+
+  abbrev ended : Player → Machine → List ℕ → Load
+  ended p m more = load.loaded (withChip p (m .chip)) (m .queues) more
+
+  voices : (n i : ℕ) (g : ℕ → List ℕ) → ((j k : ℕ) → j < n → k ≡ i + j → g j ≡ line k) → i + n ≤ 8 → (p : Player) (q : List ℤ) → Held (p .chip) (w .ram) q → p .chip .version ≡ version → (more : List ℕ)
+      → readLines n (suc i) p q (stateLines chip (w .queues) n (suc i) ++ more) ≡ ended p (after code (at p q) (map list.readVoice (row n g))) more
+  unfolding readLines code
+  voices zero i g f b p q k e more = refl
+  voices (suc n) i g f b p q k e more =
+      let here : i < 8 = omega arith in
+      let l : List ℕ = stateLine chip (w .queues) (suc i) in
+      let is : l ≡ line i = voice-line chip (w .queues) i in
+      let rest : List ℕ = stateLines chip (w .queues) n (suc (suc i)) in
+      let done : takeLine p q (suc i) l .answer ≡ Done = ap (λ (t : Taken). t .answer) (take-voice p q l i) ∙ ap (λ (t : List ℕ). readVoiceCalled (p .chip) q t .answer) is ∙ is-done (p .chip) q k e i here in
+      let player : takeLine p q (suc i) l .player ≡ withChip p (readVoiceCalled (p .chip) q (line i) .chip) = ap (λ (t : Taken). t .player) (take-voice p q l i) ∙ ap (λ (t : List ℕ). withChip p (readVoiceCalled (p .chip) q t .chip)) is in
+      let queues : takeLineQueues p q (suc i) l ≡ readVoiceQueues (p .chip) q (line i) = take-voice-queues p q l i ∙ ap (readVoiceQueues (p .chip) q) is in
+      ap (readLines (suc n) (suc i) p q) (append-assoc l rest more)
+      ∙ read-next l (rest ++ more) (state-ended chip (w .queues) (suc i) (omega arith)) n (suc i) p q done
+      ∙ ap₂ (λ (x : Player) (y : List ℤ). readLines n (suc (suc i)) x y (rest ++ more)) player queues
+      ∙ voices n (suc i) (λ j. g (suc j)) (λ j m o r. f (suc j) m (omega arith) (omega (arith, r))) (omega arith) (withChip p (readVoiceCalled (p .chip) q (line i) .chip)) (readVoiceQueues (p .chip) q (line i)) (held (p .chip) q k e i here) (still (p .chip) q k e i here) more
+      ∙ ap (λ (t : List ℕ). ended p (after code (code (at p q) (list.readVoice t) .next) (map list.readVoice (row n (λ j. g (suc j))))) more) (sym (f 0 i (omega arith) (omega arith)))
+
+  -- ---- THE STATE READ: a fresh player that reads it, and whatever follows it, goes on as `loaded` does, with the RAM's bytes behind the lines
+  pub loads : (more : List ℕ) → readLines 9 0 (freshPlayer 65536) (replicate 16384 (pos 0)) (stateText w ++ more) ≡ load.loaded (loaded w .player) (loaded w .queues) (w .ram ++ more)
+  loads more =
+      let m = machineOf w in
+      let second : Machine = fresh (w .ram) in
+      let s : Second m second = fresh-second m h in
+      let p = freshPlayer 65536 in
+      let q : List ℤ = replicate 16384 (pos 0) in
+      let l : List ℕ = stateLine chip (w .queues) 0 in
+      let is = head-line chip (w .queues) in
+      let rest : List ℕ = stateLines chip (w .queues) 8 1 in
+      let called = head-called m second h s in
+      let done : takeLine p q 0 l .answer ≡ Done = ap (λ (t : Taken). t .answer) (take-head p q l) ∙ ap (λ (t : List ℕ). readHeadCalled (p .chip) t .answer) is ∙ ap (λ (x : LineCalled). x .answer) called in
+      let player : takeLine p q 0 l .player ≡ withChip p (headedChip m second h s) = ap (λ (t : Taken). t .player) (take-head p q l) ∙ ap (λ (t : List ℕ). withChip p (readHeadCalled (p .chip) t .chip)) is ∙ ap (λ (x : LineCalled). withChip p (x .chip)) called in
+      ap (readLines 9 0 p q) (append-assoc (l ++ rest) (w .ram) more ∙ append-assoc l rest (w .ram ++ more))
+      ∙ read-next l (rest ++ (w .ram ++ more)) (state-ended chip (w .queues) 0 (omega arith)) 8 0 p q done
+      ∙ ap₂ (λ (x : Player) (y : List ℤ). readLines 8 1 x y (rest ++ (w .ram ++ more))) player (take-head-queues p q l)
+      ∙ voices 8 0 line (λ j k o r. ap line (omega (arith, r))) (omega arith) (withChip p (headedChip m second h s)) q (headed-held m second h s) refl (w .ram ++ more)
+      ∙ ap (λ (x : Machine). load.loaded (record { chip = x .chip; left = 0; right = 0 }) (x .queues) (w .ram ++ more)) (sym (read-on m second h s))

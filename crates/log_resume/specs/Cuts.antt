@@ -1,0 +1,64 @@
+-- A log cut between two of its lines.
+use mathlib.Core.Path.{_≡_}
+use mathlib.Core.Bool.{Bool, true, false, cond}
+use mathlib.Core.List.{List, [], _∷_, _++_}
+use Prim.Native.Nat.{ℕ, suc}
+use lib.Dec.{eqb}
+use lib.IntN.{pos}
+use lib.ListN.{length, replicate}
+use Rattle.log.specs.Lines.{lineOf}
+use Rattle.log.specs.Texts.{badLine}
+use Rattle.version.specs.declared.SguVersion.the-variants.{«V3_1»}
+use Rattle.s3w2.specs.Fresh.{madeCalled}
+use Rattle.log_player.specs.Worlds.{World, world}
+use Rattle.log_player.specs.Applied.{after, printed}
+use Rattle.log_player.specs.Logs.{malformed, endText}
+use Rattle.ties.specs.Ties.{Machine}
+use Rattle.resume.specs.Stops.{seen, resumed}
+
+-- the `F`, `R` and `P` lines that the rest of a log prints, of which the bytes `line` were read already; nothing behind a malformed line
+unfoldable pub soundsOf : World → List ℕ → List ℕ → List ℕ
+soundsOf w line [] = []
+soundsOf w line (c ∷ cs) =
+    cond (eqb c 10)
+    (cond (malformed (lineOf line)) [] (printed w (lineOf line) ++ soundsOf (after w (lineOf line)) [] cs))
+    (soundsOf w (line ++ (c ∷ [])) cs)
+
+-- its last line: the peak, or that a line is malformed
+unfoldable pub lastOf : World → ℕ → List ℕ → List ℕ → List ℕ
+lastOf w number line [] = endText (w .player) number (length line)
+lastOf w number line (c ∷ cs) =
+    cond (eqb c 10)
+    (cond (malformed (lineOf line)) (badLine number) (lastOf (after w (lineOf line)) (suc number) [] cs))
+    (lastOf w number (line ++ (c ∷ [])) cs)
+
+-- ---- a half that is played whole: well-formed lines, each ended by byte 10
+abbrev pub noEnd : List ℕ → Bool
+noEnd [] = true
+noEnd (c ∷ cs) = cond (eqb c 10) false (noEnd cs)
+
+pub record WellFormed (line : List ℕ) : Type 0 where
+  pub one : noEnd line ≡ true
+  pub played : malformed (lineOf line) ≡ false
+
+abbrev pub half : List (List ℕ) → List ℕ
+half [] = []
+half (line ∷ lines) = line ++ (10 ∷ half lines)
+
+abbrev pub played : World → List (List ℕ) → World
+played w [] = w
+played w (line ∷ lines) = played (after w (lineOf line)) lines
+
+-- ---- a fresh player that has read a state: the RAM and the session text
+abbrev pub machineOf : World → Machine
+machineOf w = record { chip = w .player .chip; ram = w .ram; queues = w .queues }
+
+abbrev pub fresh : List ℕ → Machine
+fresh ram = record { chip = madeCalled 65536 «V3_1» .chip; ram = ram; queues = replicate 16384 (pos 0) }
+
+abbrev pub loadedMachine : World → Machine
+loadedMachine w = resumed (fresh (w .ram)) (seen (machineOf w))
+
+-- the peaks begin anew
+abbrev pub loaded : World → World
+loaded w = world (record { chip = loadedMachine w .chip; left = 0; right = 0 }) (loadedMachine w .ram) (loadedMachine w .queues)

@@ -1,0 +1,32 @@
+-- A line written or read, by its kind. Assumes nothing.
+use mathlib.Core.Path.{_≡_, refl, ap, _∙_}
+use mathlib.Core.List.{List}
+use Prim.Native.Nat.{ℕ, _-_}
+use lib.IntN.{ℤ}
+use borrow.Author.Tests.{eq-eqb, ne-eqb}
+use Rattle.s3w2.specs.declared.Chip.{Chip}
+use Rattle.session.specs.declared.LineAnswer.{LineAnswer}
+use Rattle.session.specs.declared.LineCalled.{LineCalled}
+use Rattle.session.specs.Heads.{writeHeadAnswer, writeHeadText, readHeadCalled}
+use Rattle.session.specs.Voices.{writeVoiceAnswer, writeVoiceText, readVoiceCalled, readVoiceQueues}
+use Rattle.log_player.specs.declared.Player.{Player}
+use Rattle.log_state.specs.declared.Taken.{Taken}
+use Rattle.log_state.specs.Lines.{putLineAnswer, putLineText, taken, takeLine, takeLineQueues}
+
+module _ (chip : Chip) (queues : List ℤ) (k : ℕ) (out text : List ℕ) (answer : LineAnswer) where
+  pub head-written : k ≡ 0 → (answer ≡ writeHeadAnswer chip out) × (text ≡ writeHeadText chip out) → (answer ≡ putLineAnswer chip queues k out) × (text ≡ putLineText chip queues k out)
+  unfolding putLineAnswer putLineText
+  head-written e h = rw (eq-eqb k 0 e) h
+
+  pub voice-written : (k ≡ 0 → ⊥) → (answer ≡ writeVoiceAnswer chip queues (k - 1) out) × (text ≡ writeVoiceText chip queues (k - 1) out) → (answer ≡ putLineAnswer chip queues k out) × (text ≡ putLineText chip queues k out)
+  unfolding putLineAnswer putLineText
+  voice-written e h = rw (ne-eqb k 0 e) h
+
+module _ (p : Player) (queues : List ℤ) (k : ℕ) (text : List ℕ) (r : Taken) (called : LineCalled) where
+  pub head-taken : k ≡ 0 → called ≡ readHeadCalled (p .chip) text → r ≡ taken p called → (r ≡ takeLine p queues k text) × (queues ≡ takeLineQueues p queues k text)
+  unfolding takeLine takeLineQueues
+  head-taken e h s = rw (eq-eqb k 0 e) (s ∙ ap (λ (x : LineCalled). taken p x) h, refl)
+
+  pub voice-taken : (after : List ℤ) → (k ≡ 0 → ⊥) → (called ≡ readVoiceCalled (p .chip) queues text) × (after ≡ readVoiceQueues (p .chip) queues text) → r ≡ taken p called → (r ≡ takeLine p queues k text) × (after ≡ takeLineQueues p queues k text)
+  unfolding takeLine takeLineQueues
+  voice-taken after e h s = rw (ne-eqb k 0 e) (s ∙ ap (λ (x : LineCalled). taken p x) (h .0), h .1)

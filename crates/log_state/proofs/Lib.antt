@@ -1,0 +1,4 @@
+pub mod Refused
+pub mod Finds
+pub mod Cases
+pub mod Stated

@@ -1,0 +1,201 @@
+-- The lines of a state: each is written where there is room for it, and is found whole where it stands. Assumes nothing.
+use mathlib.Core.Path.{_≡_, refl, sym, ap, ap₂, _∙_}
+use mathlib.Core.Bool.{Bool, true, false, cond}
+use mathlib.Core.List.{List, [], _∷_, _++_, append-assoc, append-nil}
+use Prim.Native.Nat.{ℕ, zero, suc, _+_, _-_, _/_, _%_, _≤_, _<_}
+use native.Mathlib.Omega.{arith}
+use lib.Dec.{eqb, leb, ltb}
+use lib.IntN.{ℤ, pos, negsuc}
+use lib.ListN.{length, take, drop, getD, length-append}
+use lib.Seq.{sets, take-append-seam, drop-append-seam}
+use borrow.Author.Tests.{eq-eqb, ne-eqb, le-leb, lt-leb, eqb-true, eqb-false}
+use Rattle.num.proofs.Choice.{cond-by}
+use Rattle.decimal.specs.Written.{digitsIn, decimal, render}
+use Rattle.line.specs.Table.{isSample, sampleOf}
+use Rattle.line.specs.Text.{fieldText, partText, partsText, lineText, writtenOf, putOf}
+use Rattle.version.specs.declared.SguVersion.{SguVersion}
+use Rattle.version.specs.Versions.{versionNumber}
+use Rattle.voice_line.specs.Head.{headText}
+use Rattle.voice_line.specs.Lines.{voiceText}
+use Rattle.s3w2.specs.declared.Chip.{Chip}
+use Rattle.session.specs.declared.LineAnswer.{LineAnswer}
+use Rattle.session.specs.declared.LineAnswer.the-variants.{Done, Written, QueueBuffer, NotAccepted}
+use Rattle.session.specs.Answers.{wrote, stateAccepted, queuesLent}
+use Rattle.session.specs.Heads.{writeHeadAnswer, writeHeadText, readHeadCalled}
+use Rattle.session.specs.Voices.{lineOf, writeVoiceAnswer, writeVoiceText, readVoiceCalled, readVoiceQueues}
+use Rattle.log_player.specs.declared.Player.{Player}
+use Rattle.log_player.specs.Steps.{firstLine}
+use Rattle.log_state.specs.declared.Found.the-variants.{Line, Sound, Open}
+use Rattle.log_state.specs.Lines.{stateLine, putLineAnswer, putLineText, taken, takeLine, takeLineQueues}
+use Rattle.log_state.specs.Loads.{frontLine, behindLine, goesOn, readLines}
+use Rattle.log_state.specs.Finding.{soundLine, foundAt}
+
+-- ---- a line of an accepted state is written where there is room for it
+module _ (chip : Chip) (queues : List ℤ) (a : stateAccepted chip ≡ true) (q : length queues ≡ 16384) where
+  written : (out text : List ℕ) → length text ≤ length out → (wrote (writtenOf out text) ≡ Written (length text)) × (putOf out text ≡ sets out 0 text)
+  written out text h = rw (le-leb (length text) (length out) h) (refl, refl)
+
+  by-kind : (head : Bool) (out x y : List ℕ) → length (cond head x y) ≤ length out
+      → (cond head (cond (stateAccepted chip) (wrote (writtenOf out x)) NotAccepted) (cond (queuesLent queues) (cond (stateAccepted chip) (wrote (writtenOf out y)) NotAccepted) QueueBuffer) ≡ Written (length (cond head x y)))
+      × (cond head (cond (stateAccepted chip) (putOf out x) out) (cond (queuesLent queues) (cond (stateAccepted chip) (putOf out y) out) out) ≡ sets out 0 (cond head x y))
+  by-kind true out x y h = rw a (written out x h)
+  by-kind false out x y h = rw (eq-eqb (length queues) 16384 q, a) (written out y h)
+
+  pub line-put : (k : ℕ) (out : List ℕ) → length (stateLine chip queues k) ≤ length out
+      → (putLineAnswer chip queues k out ≡ Written (length (stateLine chip queues k))) × (putLineText chip queues k out ≡ sets out 0 (stateLine chip queues k))
+  unfolding stateLine putLineAnswer putLineText writeHeadAnswer writeHeadText writeVoiceAnswer writeVoiceText
+  line-put k out h = by-kind (eqb k 0) out (headText (chip .version)) (lineOf chip queues (k - 1)) h
+
+-- ---- texts without byte 10
+abbrev Goes : List ℕ → Type 0
+Goes l = (m : List ℕ) → firstLine (l ++ m) ≡ l ++ firstLine m
+
+both : (xs ys : List ℕ) → Goes xs → Goes ys → Goes (xs ++ ys)
+both xs ys f g m = ap firstLine (append-assoc xs ys m) ∙ f (ys ++ m) ∙ ap (λ (l : List ℕ). xs ++ l) (g m) ∙ sym (append-assoc xs ys (firstLine m))
+
+one : (c : ℕ) → 10 < c → Goes (c ∷ [])
+unfolding firstLine
+one c h m = rw (ne-eqb c 10 (λ e. absurd (omega arith)))
+
+choice : (b : Bool) (xs ys : List ℕ) → Goes xs → Goes ys → Goes (cond b xs ys)
+choice true xs ys f g = f
+choice false xs ys f g = g
+
+digits-go : (turns n : ℕ) → Goes (digitsIn turns n)
+unfolding digitsIn
+digits-go zero n = λ m. refl
+digits-go (suc turns) n =
+    choice (ltb n 10) ((48 + n) ∷ []) (digitsIn turns (n / 10) ++ ((48 + n % 10) ∷ [])) (one (48 + n) (omega arith))
+    (both (digitsIn turns (n / 10)) ((48 + n % 10) ∷ []) (digits-go turns (n / 10)) (one (48 + n % 10) (omega arith)))
+
+decimal-goes : (n : ℕ) → Goes (decimal n)
+unfolding decimal
+decimal-goes n = digits-go (suc n) n
+
+render-goes : (z : ℤ) → Goes (render z)
+unfolding render
+render-goes (pos n) = decimal-goes n
+render-goes (negsuc n) = both (45 ∷ []) (decimal (suc n)) (one 45 (omega arith)) (decimal-goes (suc n))
+
+part-goes : (k n : ℕ) → Goes (partText k n)
+unfolding partText fieldText
+part-goes k n =
+    let field = choice (isSample k) (render (sampleOf n)) (decimal n) (render-goes (sampleOf n)) (decimal-goes n) in
+    choice (eqb k 0) (cond (isSample k) (render (sampleOf n)) (decimal n)) (44 ∷ cond (isSample k) (render (sampleOf n)) (decimal n)) field (both (44 ∷ []) (cond (isSample k) (render (sampleOf n)) (decimal n)) (one 44 (omega arith)) field)
+
+parts-go : (k : ℕ) (ns : List ℕ) → Goes (partsText k ns)
+unfolding partsText
+parts-go k [] = λ m. refl
+parts-go k (n ∷ ns) = both (partText k n) (partsText (suc k) ns) (part-goes k n) (parts-go (suc k) ns)
+
+-- ---- a line: some text without byte 10, and then it
+pub record Ended (line : List ℕ) : Type 0 where
+  pub text : List ℕ
+  pub whole : line ≡ text ++ (10 ∷ [])
+  pub goes : (m : List ℕ) → firstLine (text ++ m) ≡ text ++ firstLine m
+
+line-ended : (ns : List ℕ) → Ended (lineText ns)
+unfolding lineText
+line-ended ns = record { text = partsText 0 ns; whole = refl; goes = parts-go 0 ns }
+
+head-ended : (version : SguVersion) → Ended (headText version)
+unfolding headText
+head-ended version = record {
+  text = 83 ∷ 51 ∷ 87 ∷ 50 ∷ 44 ∷ (48 + versionNumber version) ∷ [];
+  whole = refl;
+  goes =
+      both (83 ∷ []) (51 ∷ 87 ∷ 50 ∷ 44 ∷ (48 + versionNumber version) ∷ []) (one 83 (omega arith))
+      (both (51 ∷ []) (87 ∷ 50 ∷ 44 ∷ (48 + versionNumber version) ∷ []) (one 51 (omega arith))
+      (both (87 ∷ []) (50 ∷ 44 ∷ (48 + versionNumber version) ∷ []) (one 87 (omega arith))
+      (both (50 ∷ []) (44 ∷ (48 + versionNumber version) ∷ []) (one 50 (omega arith))
+      (both (44 ∷ []) ((48 + versionNumber version) ∷ []) (one 44 (omega arith)) (one (48 + versionNumber version) (omega arith))))));
+}
+
+voice-ended : (chip : Chip) (queues : List ℤ) (ch : ℕ) → ch ≤ 7 → Ended (lineOf chip queues ch)
+unfolding lineOf voiceText
+voice-ended chip queues ch h = rw (le-leb ch 7 h) (line-ended _)
+
+-- ---- where a line stands, all of it is found
+module _ (line rest : List ℕ) (e : Ended line) where
+  first-is : firstLine (line ++ rest) ≡ e .text
+  unfolding firstLine
+  first-is =
+      ap (λ (l : List ℕ). firstLine (l ++ rest)) (e .whole)
+      ∙ ap firstLine (append-assoc (e .text) (10 ∷ []) rest)
+      ∙ e .goes (10 ∷ rest)
+      ∙ append-nil (e .text)
+
+  size : length line ≡ length (e .text) + 1
+  size = ap length (e .whole) ∙ length-append (e .text) (10 ∷ [])
+
+  behind : suc (length (firstLine (line ++ rest))) ≡ length line
+  behind = ap (λ (l : List ℕ). suc (length l)) first-is ∙ omega (arith, size)
+
+  front-is : frontLine (line ++ rest) ≡ line
+  front-is = ap (λ (n : ℕ). take n (line ++ rest)) behind ∙ take-append-seam line rest
+
+  behind-is : behindLine (line ++ rest) ≡ rest
+  behind-is = ap (λ (n : ℕ). drop n (line ++ rest)) behind ∙ drop-append-seam line rest
+
+  -- and one more line is read
+  pub read-next : (n k : ℕ) (p : Player) (queues : List ℤ) → takeLine p queues k line .answer ≡ Done
+      → readLines (suc n) k p queues (line ++ rest) ≡ readLines n (suc k) (takeLine p queues k line .player) (takeLineQueues p queues k line) rest
+  unfolding readLines
+  read-next n k p queues d =
+      ap₂ (λ (x y : List ℕ). goesOn (takeLine p queues k x .answer) (readLines n (suc k) (takeLine p queues k x .player) (takeLineQueues p queues k x) y)) front-is behind-is
+      ∙ ap (λ (a : LineAnswer). goesOn a (readLines n (suc k) (takeLine p queues k line .player) (takeLineQueues p queues k line) rest)) d
+
+  found : (at k : ℕ) → soundLine (getD (line ++ rest) 0 0) k ≡ false → foundAt (line ++ rest) at k ≡ Line (at + length line)
+  unfolding foundAt
+  found at k s =
+      rw (first-is, lt-leb (length (line ++ rest)) (length (e .text)) (omega (arith, length-append line rest, size)), s)
+      (ap Line (omega (arith, size)))
+
+module _ (chip : Chip) (queues : List ℤ) (k : ℕ) where
+  pub state-ended : k ≤ 8 → Ended (stateLine chip queues k)
+  unfolding stateLine
+  state-ended h = go (eqb k 0) refl
+    where
+      go : (b : Bool) → eqb k 0 ≡ b → Ended (cond b (headText (chip .version)) (lineOf chip queues (k - 1)))
+      go true e = head-ended (chip .version)
+      go false e = voice-ended chip queues (k - 1) (omega arith)
+
+  no-sound : (rest : List ℕ) → soundLine (getD (stateLine chip queues k ++ rest) 0 0) k ≡ false
+  unfolding stateLine soundLine headText
+  no-sound rest = go (eqb k 0) refl
+    where
+      go : (b : Bool) → eqb k 0 ≡ b → soundLine (getD (cond b (headText (chip .version)) (lineOf chip queues (k - 1)) ++ rest) 0 0) k ≡ false
+      go true e = rw e
+      go false e = rw e
+
+  pub state-found : (at : ℕ) (rest : List ℕ) → k ≤ 8 → foundAt (stateLine chip queues k ++ rest) at k ≡ Line (at + length (stateLine chip queues k))
+  state-found at rest h = found (stateLine chip queues k) rest (state-ended h) at k (no-sound rest)
+
+-- ---- the head and the voices by their lines
+module _ (p : Player) (queues : List ℤ) (text : List ℕ) where
+  pub take-head : takeLine p queues 0 text ≡ taken p (readHeadCalled (p .chip) text)
+  unfolding takeLine
+  take-head = refl
+
+  pub take-head-queues : takeLineQueues p queues 0 text ≡ queues
+  unfolding takeLineQueues
+  take-head-queues = refl
+
+  pub take-voice : (i : ℕ) → takeLine p queues (suc i) text ≡ taken p (readVoiceCalled (p .chip) queues text)
+  unfolding takeLine
+  take-voice i = rw (ne-eqb (suc i) 0 (λ e. absurd (omega arith)))
+
+  pub take-voice-queues : (i : ℕ) → takeLineQueues p queues (suc i) text ≡ readVoiceQueues (p .chip) queues text
+  unfolding takeLineQueues
+  take-voice-queues i = rw (ne-eqb (suc i) 0 (λ e. absurd (omega arith)))
+
+module _ (chip : Chip) (queues : List ℤ) where
+  pub head-line : stateLine chip queues 0 ≡ headText (chip .version)
+  unfolding stateLine
+  head-line = refl
+
+  pub voice-line : (i : ℕ) → stateLine chip queues (suc i) ≡ lineOf chip queues i
+  unfolding stateLine
+  voice-line i =
+      ap (λ (b : Bool). cond b (headText (chip .version)) (lineOf chip queues (suc i - 1))) (ne-eqb (suc i) 0 (λ e. absurd (omega arith)))
+      ∙ ap (lineOf chip queues) (omega arith)

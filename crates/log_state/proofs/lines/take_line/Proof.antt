@@ -1,0 +1,37 @@
+use borrow.Author.Needs.{needs}
+use Rattle.log_state.proofs.Cases.{head-taken, voice-taken}
+use Rattle.log_state.proofs.lines.take_line.Statement.{statement}
+use Rattle.log_state.proofs.lines.take_line.Tie as tie
+
+read-head-requires : tie.Need-read-head-requires
+read-head-requires c κs = search needs
+
+taken-requires : tie.Need-taken-requires
+taken-requires c κs = search needs
+
+returns : tie.Need-returns
+returns c = head-taken (c .before .before .before .before .before .args .player) (c .before .before .before .before .before .args .queues .now) (c .before .before .before .before .before .args .k) (c .before .before .before .before .before .args .text .now) _ _ (c .before .before .if1 .taken) (c .before .read-head .ensures) (c .taken .ensures)
+
+read-voice-requires : tie.Need-read-voice-requires
+read-voice-requires c κs = search needs
+
+taken-requires-2 : tie.Need-taken-requires-2
+taken-requires-2 c κs = search needs
+
+same-length : tie.Need-same-length
+same-length c = search needs
+
+returns-2 : tie.Need-returns-2
+returns-2 c = voice-taken (c .before .before .before .before .before .before .before .args .player) (c .before .before .before .before .before .before .before .args .queues .now) (c .before .before .before .before .before .before .before .args .k) (c .before .before .before .before .before .before .before .args .text .now) _ _ _ (c .before .before .before .before .if1 .left) (c .before .before .read-voice .ensures) (c .taken2 .ensures)
+
+pub take-line-spec : {M : Type 1} → statement M
+take-line-spec =
+    tie.close
+    (tie.spec
+    read-head-requires
+    taken-requires
+    returns
+    read-voice-requires
+    taken-requires-2
+    same-length
+    returns-2)

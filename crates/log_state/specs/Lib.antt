@@ -1,0 +1,4 @@
+pub mod Lines
+pub mod Refusals
+pub mod Finding
+pub mod Loads

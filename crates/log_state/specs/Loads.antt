@@ -1,0 +1,37 @@
+-- A state's lines read from the front of an input.
+use mathlib.Core.List.{List}
+use Prim.Native.Nat.{ℕ, zero, suc}
+use lib.IntN.{ℤ}
+use lib.ListN.{length, take, drop}
+use Rattle.session.specs.declared.LineAnswer.{LineAnswer}
+use Rattle.session.specs.declared.LineAnswer.the-variants.{Done, Written, QueueBuffer, NotAccepted, TextBuffer, Malformed}
+use Rattle.log_player.specs.declared.Player.{Player}
+use Rattle.log_player.specs.Steps.{firstLine}
+use Rattle.log_state.specs.Lines.{takeLine, takeLineQueues}
+
+-- the first line of an input with its byte 10, and what follows it
+abbrev pub frontLine : List ℕ → List ℕ
+frontLine input = take (suc (length (firstLine input))) input
+
+abbrev pub behindLine : List ℕ → List ℕ
+behindLine input = drop (suc (length (firstLine input))) input
+
+-- what reading comes to: a player with its queue buffer, and the input behind the lines; or why the first line that is turned away is so
+pub data Load : Type 0 where
+  loaded : Player → List ℤ → List ℕ → Load
+  refused : LineAnswer → Load
+
+abbrev pub goesOn : LineAnswer → Load → Load
+goesOn Done next = next
+goesOn (Written n) next = refused (Written n)
+goesOn QueueBuffer next = refused QueueBuffer
+goesOn NotAccepted next = refused NotAccepted
+goesOn TextBuffer next = refused TextBuffer
+goesOn (Malformed field) next = refused (Malformed field)
+
+-- n lines, from line k on
+unfoldable pub readLines : ℕ → ℕ → Player → List ℤ → List ℕ → Load
+readLines zero k p queues input = loaded p queues input
+readLines (suc n) k p queues input =
+    goesOn (takeLine p queues k (frontLine input) .answer)
+    (readLines n (suc k) (takeLine p queues k (frontLine input) .player) (takeLineQueues p queues k (frontLine input)) (behindLine input))

@@ -1,0 +1,47 @@
+// One line of a state, written or read: line 0 is the head, line k that of voice k - 1.
+ghost use mathlib.Core.Path.{_≡_};
+ghost use Rattle.log_state.specs.Lines.{putLineAnswer, putLineText, taken as takenBy, takeLine, takeLineQueues};
+use crate::Taken;
+use log_player::Player;
+use session::LineAnswer;
+use session::LineCalled;
+
+// Writes line k at out's beginning, if there is room for it.
+pub fn put_line(player: Player, queues: &[i16], k: usize, out: &mut [u8]) -> LineAnswer
+    ensures { λ r. ⌜ r ≡ putLineAnswer (player .chip) (now (queues .entry)) k (now (out .entry)) ⌝ }
+    ensures { λ _. ⌜ now (out .exit) ≡ putLineText (player .chip) (now (queues .entry)) k (now (out .entry)) ⌝ }
+{
+    let chip = player.chip;
+    if k == 0 {
+        return session::write_head(chip, out);
+    }
+    session::write_voice(chip, queues, k - 1, out)
+}
+
+// The peaks stay.
+fn taken(player: Player, called: LineCalled) -> Taken
+    ensures { λ r. ⌜ r ≡ takenBy player called ⌝ }
+{
+    let chip = called.chip;
+    let answer = called.answer;
+    Taken {
+        player: Player {
+            chip,
+            left: player.left,
+            right: player.right,
+        },
+        answer,
+    }
+}
+
+// Reads line k. A voice line sets the voice that its first field names.
+pub fn take_line(player: Player, queues: &mut [i16], k: usize, text: &[u8]) -> Taken
+    ensures { λ r. ⌜ r ≡ takeLine player (now (queues .entry)) k (now (text .entry)) ⌝ }
+    ensures { λ _. ⌜ now (queues .exit) ≡ takeLineQueues player (now (queues .entry)) k (now (text .entry)) ⌝ }
+{
+    let chip = player.chip;
+    if k == 0 {
+        return taken(player, session::read_head(chip, text));
+    }
+    taken(player, session::read_voice(chip, queues, text))
+}

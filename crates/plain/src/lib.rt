@@ -1,0 +1,1 @@
+// Document 01's plain chip. Definitions and proofs only.

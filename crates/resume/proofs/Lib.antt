@@ -1,0 +1,4 @@
+pub mod Steps
+pub mod Second
+pub mod Alike
+pub mod Resumes

@@ -1,0 +1,98 @@
+-- A second chip in any accepted state that reads a session. Assumes nothing.
+use mathlib.Core.Path.{_≡_, refl, sym, ap, _∙_, subst}
+use mathlib.Core.Bool.{Bool, true, cond}
+use mathlib.Core.List.{List, map}
+use Prim.Native.Nat.{ℕ}
+use lib.IntN.{ℤ}
+use lib.ListN.{length}
+use Rattle.tone.specs.Pcm.{isRamLength}
+use Rattle.version.specs.declared.SguVersion.{SguVersion}
+use Rattle.voice_line.specs.Head.{headText}
+use Rattle.voice_line.specs.Head as heads
+use Rattle.voice_line.specs.declared.HeadLine.{HeadLine}
+use Rattle.voice_line.proofs.Heads.{head-back}
+use Rattle.voices.specs.Core.{setCoreVersion}
+use Rattle.voices.proofs.Voices.{version-changed}
+use Rattle.s3w2.specs.declared.Chip.{Chip}
+use Rattle.s3w2.specs.declared.Answer.{Answer}
+use Rattle.s3w2.specs.declared.Answer.the-variants.{Done}
+use Rattle.s3w2.specs.Answers.{answered, called}
+use Rattle.s3w2.specs.Refusals.{acceptsChip, ownRefusal}
+use Rattle.s3w2.specs.Fresh.{setVersionCalled}
+use Rattle.session.specs.declared.LineCalled.{LineCalled}
+use Rattle.session.specs.declared.LineAnswer.the-variants as lines
+use Rattle.session.specs.Answers as answers
+use Rattle.session.specs.Heads.{headCalled, readHeadCalled}
+use Rattle.plain.specs.Models.{slots}
+use Rattle.plain.specs.Chips as chips
+use Rattle.plain.specs.Chips.{World}
+use Rattle.plain.specs.Good.{WorldOk}
+use Rattle.world.proofs.Stores.{world-version}
+use Rattle.calls.specs.Runs.{after}
+use Rattle.calls.specs.Calls.{readHead, readVoice, run}
+use Rattle.calls.specs.Seen as calls
+use Rattle.calls.specs.Seen.{Accepted}
+use Rattle.calls.proofs.Resumes.{fit-lines, head-read, headed-good}
+use Rattle.told.specs.Session.{session}
+use Rattle.told.proofs.Read.{session-is-ok}
+use Rattle.ties.specs.Ties.{Machine, Held, Tied}
+use Rattle.ties.specs.Code.{code}
+use Rattle.ties.proofs.Accepting.{accepts-largest, state-none}
+use Rattle.ties.proofs.Made.{accepted-world}
+use Rattle.resume.specs.Stops.{seen, resumed, Second, worldOf}
+use Rattle.resume.proofs.Steps.{HeldMachine, held-after, world-after, seen-same}
+
+module _ (first second : Machine) (h : HeldMachine first) (s : Second first second) where
+  abbrev version : SguVersion
+  version = first .chip .version
+
+  pub accepted : Accepted (worldOf second)
+  accepted = accepted-world (second .chip .version) (second .chip .core) (second .ram) (second .queues) (s .accepted) (s .long) (s .typed)
+
+  allowed : isRamLength (length (second .ram)) ≡ true
+  allowed = ap (λ (l : List ℕ). isRamLength (length l)) (s .copy) ∙ h .allowed
+
+  state : acceptsChip (second .chip) 16777216 ≡ true
+  state = accepts-largest (second .chip) (second .ram) allowed (s .typed .sized) (s .accepted)
+
+  -- the head is read
+  abbrev pub headedChip : Chip
+  headedChip = record { version = version; core = setCoreVersion (second .chip .core) version }
+
+  pub head-called : readHeadCalled (second .chip) (headText version) ≡ answers.answered headedChip lines.Done
+  unfolding readHeadCalled setVersionCalled
+  head-called =
+      ap (λ (b : Bool). cond b (headCalled (second .chip) (heads.readHead (headText version))) (answers.answered (second .chip) lines.NotAccepted)) state
+      ∙ ap (headCalled (second .chip)) (head-back version)
+      ∙ ap (λ (r : Answer). answers.answered (called r (second .chip) (answered headedChip Done) .chip) lines.Done) (state-none (second .chip) state)
+
+  abbrev pub headed : Machine
+  headed = record { chip = headedChip; ram = second .ram; queues = second .queues }
+
+  headed-is : code second (readHead (headText version)) .next ≡ headed
+  unfolding code
+  headed-is = ap (λ (c : LineCalled). record { chip = c .chip; ram = second .ram; queues = second .queues }) head-called
+
+  headed-world : worldOf headed ≡ chips.setVersion slots version (worldOf second)
+  headed-world = world-version (second .chip .core) (second .queues) (s .typed .sized) (second .chip .version) version (second .ram)
+
+  pub headed-held : HeldMachine headed
+  headed-held = record {
+    allowed = allowed;
+    sized = version-changed (second .chip .core) (s .typed .sized) version .sized;
+    long = s .long;
+    good = subst WorldOk (sym headed-world) (headed-good session session-is-ok (worldOf first) (worldOf second) (h .good) accepted (s .copy));
+  }
+
+  pub read-on : resumed second (seen first) ≡ after code headed (map readVoice (seen first .lines))
+  read-on = ap (λ (m : Machine). after code m (map readVoice (seen first .lines))) headed-is
+
+  pub resumed-held : HeldMachine (resumed second (seen first))
+  resumed-held = subst HeldMachine (sym read-on) (held-after headed (map readVoice (seen first .lines)) headed-held (fit-lines (seen first .lines)))
+
+  pub resumed-world : worldOf (resumed second (seen first)) ≡ calls.resumed session (worldOf second) (calls.seen slots session (worldOf first))
+  resumed-world =
+      ap worldOf read-on
+      ∙ world-after headed (map readVoice (seen first .lines)) headed-held (fit-lines (seen first .lines))
+      ∙ ap (λ (w : World). after (run slots session) w (map readVoice (seen first .lines))) (headed-world ∙ sym (head-read session session-is-ok (worldOf first) (worldOf second) (h .good) accepted (s .copy)))
+      ∙ ap (calls.resumed session (worldOf second)) (seen-same first h)

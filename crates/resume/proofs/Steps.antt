@@ -1,0 +1,59 @@
+-- A list of calls of the code is the list's run. Assumes nothing.
+use mathlib.Core.Path.{_≡_, refl, sym, ap, ap₂, _∙_}
+use mathlib.Core.List.{List, [], _∷_, map}
+use Prim.Native.Nat.{ℕ, zero, suc, _+_, _<_}
+use native.Mathlib.Omega.{arith}
+use Rattle.session.specs.Voices.{lineOf}
+use Rattle.plain.specs.Lists.{Every}
+use Rattle.plain.specs.Slots.{Slot}
+use Rattle.plain.specs.Voices.{plainOf}
+use Rattle.plain.specs.Models.{slots}
+use Rattle.plain.specs.Chips.{World}
+use Rattle.world.specs.Whole.{row, slotAt, slotsOf}
+use Rattle.world.proofs.Puts.{slot-at}
+use Rattle.calls.specs.Runs.{Ran, after}
+use Rattle.calls.specs.Calls.{Call, run}
+use Rattle.calls.specs.Seen as calls
+use Rattle.calls.specs.Seen.{FitCall, linesFrom}
+use Rattle.told.specs.Session.{session, plainText}
+use Rattle.ties.specs.Ties.{Machine, Held}
+use Rattle.ties.specs.Code.{code}
+use Rattle.ties.proofs.Lines.{line-same}
+use Rattle.ties.proofs.Every.{tied}
+use Rattle.resume.specs.Stops.{seen, ofChip, ofVoices, told, worldOf}
+
+abbrev pub HeldMachine : Machine → Type 0
+HeldMachine m = Held (m .chip) (m .ram) (m .queues)
+
+pub held-after : (m : Machine) (cs : List Call) → HeldMachine m → Every FitCall cs → HeldMachine (after code m cs)
+held-after m [] h f = h
+held-after m (c ∷ cs) h f = held-after (code m c .next) cs (tied m h c (f .0) .held) (f .1)
+
+pub world-after : (m : Machine) (cs : List Call) → HeldMachine m → Every FitCall cs → worldOf (after code m cs) ≡ after (run slots session) (worldOf m) cs
+world-after m [] h f = refl
+world-after m (c ∷ cs) h f =
+    let t = tied m h c (f .0) in
+    world-after (code m c .next) cs (t .held) (f .1) ∙ ap (λ (w : World). after (run slots session) w cs) (t .next)
+
+-- the text of the lines from channel j on
+lines-from : (n j : ℕ) (f : ℕ → Slot) (g : ℕ → List ℕ) → ((i k : ℕ) → i < n → k ≡ j + i → g i ≡ plainText k (plainOf (f i))) → row n g ≡ linesFrom session j (map plainOf (row n f))
+lines-from zero j f g h = refl
+lines-from (suc n) j f g h =
+    ap₂ (λ (x : List ℕ) (l : List (List ℕ)). x ∷ l) (h 0 j (omega arith) (omega arith))
+    (lines-from n (suc j) (λ i. f (suc i)) (λ i. g (suc i)) (λ i k l e. h (suc i) k (omega arith) (omega arith)))
+
+-- the session text is that of its voices
+pub seen-same : (m : Machine) → HeldMachine m → seen m ≡ calls.seen slots session (worldOf m)
+unfolding slotsOf
+seen-same m h =
+    let own : (i k : ℕ) → i < 8 → k ≡ 0 + i → lineOf (m .chip) (m .queues) i ≡ plainText k (plainOf (slotAt (m .chip .core) (m .queues) i)) = λ i k l e. line-same (m .chip) (m .ram) (m .queues) h i ∙ ap₂ (λ (j : ℕ) (x : Slot). plainText j (plainOf x)) (omega (arith, e)) (slot-at (m .chip .core) (m .queues) i l) in
+    let e = lines-from 8 0 (slotAt (m .chip .core) (m .queues)) (lineOf (m .chip) (m .queues)) own in
+    λ i. record { head = seen m .head; lines = e i; ram = m .ram }
+
+pub chip-voices : (m : Machine) (cs : List Call) → HeldMachine m → Every FitCall cs → ofChip m cs ≡ map told (ofVoices (worldOf m) cs)
+chip-voices m [] h f = refl
+chip-voices m (c ∷ cs) h f =
+    let t = tied m h c (f .0) in
+    let now : seen (code m c .next) ≡ calls.seen slots session (run slots session (worldOf m) c .next) = seen-same (code m c .next) (t .held) ∙ ap (calls.seen slots session) (t .next) in
+    let later : ofChip (code m c .next) cs ≡ map told (ofVoices (run slots session (worldOf m) c .next) cs) = chip-voices (code m c .next) cs (t .held) (f .1) ∙ ap (λ (w : World). map told (ofVoices w cs)) (t .next) in
+    λ i. record { next = now i; answer = record { reply = t .reply i; sides = t .sides i; text = t .text i } } ∷ later i

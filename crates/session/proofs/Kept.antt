@@ -1,0 +1,53 @@
+-- A session's call leaves an accepted state accepted. Assumes nothing beyond the ranges that the types give.
+use mathlib.Core.Path.{_≡_, refl}
+use mathlib.Core.Bool.{true}
+use mathlib.Core.List.{List}
+use Prim.Native.Nat.{ℕ}
+use lib.IntN.{ℤ}
+use Rattle.num.proofs.Choice.{cond-by}
+use Rattle.voice_line.specs.Head.{readHead}
+use Rattle.voice_line.specs.Lines.{Voice, ReadVoice, voice, malformed, readVoice}
+use Rattle.voice_line.specs.declared.HeadLine.{HeadLine}
+use Rattle.voice_line.specs.declared.HeadLine.the-variants as head
+use Rattle.voices.specs.Accepted.{SizedCore}
+use Rattle.voices.proofs.Accepting.{accepted-core, core-accepted, one-kept}
+use Rattle.s3w2.specs.Refusals.{acceptsChip}
+use Rattle.s3w2.specs.declared.Chip.{Chip}
+use Rattle.s3w2.proofs.Kept.{set-version-kept}
+use Rattle.session.specs.declared.LineCalled.{LineCalled}
+use Rattle.session.specs.declared.LineAnswer.the-variants.{QueueBuffer, NotAccepted}
+use Rattle.session.specs.Answers.{answered, stateAccepted, queuesLent, withState}
+use Rattle.session.specs.Heads.{headCalled, readHeadCalled}
+use Rattle.session.specs.Voices.{loadedCore, loadedChip, voiceCalled, readVoiceCalled}
+use Rattle.session.proofs.Told.{Read, read}
+use Rattle.session.proofs.Loaded.{loaded-changed}
+
+-- n is the length of the RAM that the chip is played over
+module _ (chip : Chip) (n : ℕ) (ok : acceptsChip chip n ≡ true) (sized : SizedCore (chip .core)) where
+  abbrev fine : LineCalled → Type 0
+  fine x = acceptsChip (x .chip) n ≡ true
+
+  head-kept : (h : HeadLine) → acceptsChip (headCalled chip h .chip) n ≡ true
+  head-kept (head.Version version) = set-version-kept chip n ok sized version
+  head-kept (head.Malformed field) = ok
+
+  pub read-head-kept : (text : List ℕ) → acceptsChip (readHeadCalled chip text .chip) n ≡ true
+  unfolding readHeadCalled
+  read-head-kept text = cond-by fine (stateAccepted chip) (headCalled chip (readHead text)) (answered chip NotAccepted) (λ e. head-kept (readHead text)) (λ e. ok)
+
+  voice-kept : (v : Voice) → Read (chip .version) v → acceptsChip (loadedChip chip (v .number) (voice v)) n ≡ true
+  voice-kept v r =
+      core-accepted (loadedCore (chip .core) (v .number) (voice v)) (chip .version) n
+      (one-kept (chip .core) (chip .version) n (accepted-core (chip .core) (chip .version) n sized ok) (loaded-changed (voice v) (v .number) (r .named) (chip .core) sized) (r .accepted n))
+
+  line-kept : (r : ReadVoice) → ((v : Voice) → r ≡ voice v → Read (chip .version) v) → acceptsChip (voiceCalled chip r .chip) n ≡ true
+  line-kept (voice v) f = voice-kept v (f v refl)
+  line-kept (malformed field) f = ok
+
+  pub read-voice-kept : (queues : List ℤ) (text : List ℕ) → acceptsChip (readVoiceCalled chip queues text .chip) n ≡ true
+  unfolding readVoiceCalled
+  read-voice-kept queues text =
+      let r = readVoice (chip .version) text in
+      cond-by fine (queuesLent queues) (withState chip (voiceCalled chip r) (answered chip NotAccepted)) (answered chip QueueBuffer)
+      (λ e. cond-by fine (stateAccepted chip) (voiceCalled chip r) (answered chip NotAccepted) (λ e. line-kept r (read (chip .version) text)) (λ e. ok))
+      (λ e. ok)

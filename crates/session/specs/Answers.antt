@@ -1,0 +1,48 @@
+-- What a session's call answers, and document 01's numbers for calls turned away.
+use mathlib.Core.Bool.{Bool, cond}
+use mathlib.Core.List.{List, [], _∷_}
+use Prim.Native.Nat.{ℕ}
+use lib.Dec.{eqb}
+use lib.IntN.{ℤ}
+use lib.ListN.{length}
+use Rattle.line.specs.declared.Written as lines
+use Rattle.line.specs.declared.Written.the-variants as line
+use Rattle.s3w2.specs.Refusals.{acceptsChip, largest}
+use Rattle.s3w2.specs.declared.Chip.{Chip}
+use Rattle.session.specs.declared.LineAnswer.{LineAnswer}
+use Rattle.session.specs.declared.LineAnswer.the-variants.{Done, Written, QueueBuffer, NotAccepted, TextBuffer, Malformed}
+use Rattle.session.specs.declared.LineCalled.{LineCalled}
+
+-- the number of a refusal with its values; an answer that is none has none
+abbrev pub numbersOf : LineAnswer → List ℕ
+numbersOf Done = []
+numbersOf (Written n) = []
+numbersOf QueueBuffer = 2 ∷ []
+numbersOf NotAccepted = 3 ∷ []
+numbersOf TextBuffer = 15 ∷ []
+numbersOf (Malformed field) = 16 ∷ field ∷ []
+
+abbrev pub answered : Chip → LineAnswer → LineCalled
+answered chip answer = record { chip = chip; answer = answer }
+
+-- the length of the line that was written, or that there is no room for it
+abbrev pub wrote : lines.Written → LineAnswer
+wrote (line.Length n) = Written n
+wrote line.TextBuffer = TextBuffer
+
+-- ---- what a call asks for
+
+-- the calls are lent no RAM
+abbrev pub stateAccepted : Chip → Bool
+stateAccepted chip = acceptsChip chip largest
+
+abbrev pub queuesLent : List ℤ → Bool
+queuesLent queues = eqb (length queues) 16384
+
+-- what a call on an accepted chip makes
+abbrev pub withState : {A : Type 0} → Chip → A → A → A
+withState chip done refused = cond (stateAccepted chip) done refused
+
+-- and one that is lent the queue buffer
+abbrev pub withQueues : {A : Type 0} → Chip → List ℤ → A → A → A → A
+withQueues chip queues done notAccepted notLent = cond (queuesLent queues) (withState chip done notAccepted) notLent

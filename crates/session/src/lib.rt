@@ -1,0 +1,28 @@
+// The session's calls on a chip: a head or a voice line written or read. Refusals come in the order of document 01's table:
+// queue buffer, state, then the text.
+mod answers;
+mod heads;
+mod reading;
+mod writing;
+
+pub use heads::read_head;
+pub use heads::write_head;
+pub use reading::read_voice;
+use s3w2::Chip;
+pub use writing::write_voice;
+
+// What a call answers: that it is done, the length of the line that it wrote, or why it is turned away. A field is counted
+// from 1.
+pub enum LineAnswer {
+    Done,
+    Written(usize),
+    QueueBuffer,
+    NotAccepted,
+    TextBuffer,
+    Malformed(usize),
+}
+
+pub struct LineCalled {
+    pub chip: Chip,
+    pub answer: LineAnswer,
+}

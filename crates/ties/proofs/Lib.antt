@@ -1,0 +1,6 @@
+pub mod Accepting
+pub mod Calls
+pub mod Sounds
+pub mod Made
+pub mod Lines
+pub mod Every

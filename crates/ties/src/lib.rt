@@ -1,0 +1,1 @@
+// The chip's calls are those of the list. Definitions and proofs only.

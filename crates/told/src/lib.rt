@@ -1,0 +1,1 @@
+// A session's lines. Definitions and proofs only.

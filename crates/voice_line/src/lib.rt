@@ -1,0 +1,24 @@
+// The lines of a session text: a head or a voice line, written and read.
+mod head;
+mod reading;
+mod states;
+mod writing;
+
+pub use head::read_head;
+pub use head::write_head;
+pub use reading::check_voice;
+pub use reading::read_voice;
+use version::SguVersion;
+pub use writing::write_voice;
+
+// What a voice line is: that of a voice, or malformed at a field, counted from 1.
+pub enum VoiceLine {
+    Voice(usize),
+    Malformed(usize),
+}
+
+// What a head is.
+pub enum HeadLine {
+    Version(SguVersion),
+    Malformed(usize),
+}

@@ -1,0 +1,145 @@
+#!/usr/bin/env python3
+"""s3w2_logs.py SEED NUMBER LENGTH: random logs; as a program, one score with LENGTH lines behind its voices.
+
+A log of `log` is well formed, of up to some thousands of lines, or has one malformed line somewhere: empty, cut short, too long, with a
+leading zero, a sign, a space, a number out of range, a field too many or too few. A log of `score` sets voices up first, so that
+they sound: wavetables under every modulation, PCM, noise, streams of every version with loops, queues in part full; then it goes on with
+random lines among frames.
+"""
+import random
+import sys
+
+sys.dont_write_bytecode = True
+import sqv4_files  # noqa: E402
+
+BAD = ["", "C", "C,", "C,0", "C,1001", "C,01", "C,+1", "C,-1", "C, 1", "C,1 ", "C,1\r", "C,1,", "C,1,1", "c,1", "CC,1", ",1", "V,5", "V,", "W,1",
+       "W,1,", "W,1,256", "W,01,1", "W,1,01", "W,4294967296,1", "W,1,1,1", "W,,1", "W;1,1", "M,1", "M,1,256", "M,4294967296,0", "R,", "R,1,1", "R,-1",
+       "R,4294967296", "R,18446744073709551616", "P,00", "P", "Q,1", "F,1,1", "W,4294967295,2555", "C,1\0", "\0", "R,\xb2"]
+
+
+def address(rng):
+    kind = rng.randrange(8)
+    if kind == 0:
+        return rng.choice([0, 2047, 2048, 2303, 2304, 65535, 65536, 4294967295, rng.randrange(1 << 32)])
+    if kind < 3:
+        return rng.randrange(2048)
+    return 2048 + rng.randrange(256)
+
+
+def line(rng):
+    kind = rng.randrange(20)
+    if kind < 10:
+        return f"W,{address(rng)},{rng.choice([0, 1, 2, 3, 4, 5, 128, 255, rng.randrange(256)])}"
+    if kind < 12:
+        return f"M,{rng.choice([rng.randrange(65536), rng.randrange(64), address(rng)])},{rng.randrange(256)}"
+    if kind < 14:
+        return f"R,{address(rng)}"
+    if kind < 16:
+        return f"P,{address(rng)}"
+    if kind < 17:
+        return f"V,{rng.randrange(5)}"
+    return f"C,{rng.choice([1, 1, 2, 3, rng.randrange(1, 60), rng.choice([256, 257, 999, 1000]) if rng.random() < 0.1 else 1])}"
+
+
+def malformed(rng):
+    kind = rng.randrange(10)
+    if kind == 0:
+        return "R," + "1" * rng.choice([15, 16, 17, 30, 70000])
+    if kind == 1:
+        good = line(rng)
+        place = rng.randrange(len(good) + 1)
+        return good[:place] + rng.choice("0x ,-\r\t") + good[place:]
+    return rng.choice(BAD)
+
+
+def log(seed, number):
+    rng = random.Random(f"{seed} {number}")
+    count = rng.choice([0, 1, 2, 10, 100, rng.randrange(1000), rng.randrange(12000)])
+    lines = [line(rng) for _ in range(count)]
+    if rng.random() < 0.4:
+        lines.insert(rng.randrange(len(lines) + 1), malformed(rng))
+    text = "".join(each + "\n" for each in lines).encode("latin-1")
+    return text[:-1] if text and rng.random() < 0.1 else text
+
+
+def number(ch, offset, value, width):
+    """A register of several bytes, the highest first."""
+    return [f"W,{2048 + 32 * ch + offset + k},{value >> 8 * (width - 1 - k) & 255}" for k in range(width)]
+
+
+def stream(rng, version, variant, fragments):
+    """A mono file, and the size of a fragment."""
+    per = sqv4_files.samples_of(version)
+    samples = per * fragments - rng.choice([0, 1, rng.randrange(per)])
+    file = sqv4_files.header(version, variant, 1, 48000, samples)
+    size = 0
+    for first in range(0, samples, per):
+        part = sqv4_files.fragment(rng, version, variant, min(per, samples - first))
+        size = len(part)
+        file += part
+    return file, size
+
+
+def queue(rng, ch):
+    lines = []
+    for _ in range(rng.choice([1, 20, rng.randrange(200), 1024 if rng.random() < 0.1 else 3])):
+        lines += [f"W,{2048 + 32 * ch + 12},{rng.randrange(256)}", f"W,{2048 + 32 * ch + 13},{rng.randrange(256)}"]
+    return lines
+
+
+def sounding(rng, ch, kind, version):
+    """A voice that sounds: its registers, and what it plays."""
+    start, lines = 8192 * ch, []
+    end, loop = start + rng.randrange(1, 300), start + rng.randrange(0, 200)
+    if kind == 0:
+        lines += [f"W,{256 * ch + rng.randrange(256)},{rng.randrange(256)}" for _ in range(rng.randrange(40))]
+    elif kind == 1:
+        lines += [f"M,{start + k},{rng.randrange(256)}" for k in range(rng.randrange(60))]
+    elif kind == 4:
+        file, size = stream(rng, 3 if version > 2 else rng.choice([1, 2]), rng.randrange(3), rng.randrange(1, 9))
+        lines += [f"M,{start + k},{byte}" for k, byte in enumerate(file)]
+        end = start + len(file)
+        loop = rng.choice([0, start, start + 16 + size * rng.randrange((len(file) - 16) // size)])
+    elif kind == 5:
+        lines += queue(rng, ch)
+    frequency = rng.choice([rng.randrange(65536), rng.randrange(3000), 48000 if kind == 4 else rng.randrange(9)])
+    lines += number(ch, 2, kind, 1) + number(ch, 0, frequency, 2) + number(ch, 3, rng.choice([255, rng.randrange(256)]), 1)
+    lines += number(ch, 4, rng.randrange(256), 1) + number(ch, 5, rng.randrange(7) << 3 | rng.randrange(8), 1)
+    lines += number(ch, 6, rng.choice([rng.randrange(65536), rng.randrange(300)]), 2) + number(ch, 8, rng.randrange(65536), 2)
+    lines += number(ch, 0x0B, rng.randrange(2), 1) + number(ch, 0x1A, rng.randrange(8), 1)
+    return lines + number(ch, 0x10, start, 3) + number(ch, 0x13, end, 3) + number(ch, 0x16, loop, 3) + number(ch, 0x19, rng.choice([1, 3, 3]), 1)
+
+
+def score(seed, number, length=0):
+    """The lines of a score: eight voices of every kind and `length` lines behind them; where that is 0, up to four voices and 120 lines."""
+    rng = random.Random(f"{seed} {number} score")
+    version = rng.choice([2, 3, 4] if length else range(5))
+    kinds = rng.sample([0, 0, 1, 2, 4, 4, 5, 5], 8 if length else rng.randrange(1, 5))
+    queues = [ch for ch, kind in enumerate(kinds) if kind == 5] or range(8)
+    lines = [f"V,{version}"]
+    for ch, kind in enumerate(kinds):
+        lines += sounding(rng, ch, kind, version)
+    for _ in range(length or rng.randrange(120)):
+        kind = rng.randrange(12)
+        if kind < 7:
+            lines.append(f"C,{rng.choice([1, 1, 2, 3, rng.randrange(1, 60), rng.randrange(1, 120)])}")
+        elif kind < 8:
+            lines += queue(rng, rng.choice(queues))[:8]
+        elif kind < 9:
+            lines.append(f"R,{2048 + 32 * rng.randrange(8) + rng.randrange(32)}")
+        else:
+            lines.append(line(rng))
+    if not length and rng.random() < 0.1:
+        lines.insert(rng.randrange(len(lines) + 1), malformed(rng))
+    return lines
+
+
+def main():
+    if len(sys.argv) != 4 or not sys.argv[3].isdigit():
+        sys.exit(__doc__)
+    for each in score(sys.argv[1], sys.argv[2], int(sys.argv[3])):
+        print(each)
+
+
+if __name__ == "__main__":
+    main()
