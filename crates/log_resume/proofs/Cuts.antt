@@ -95,7 +95,7 @@ halves (line ∷ lines) w rest f =
     ∙ sym (append-assoc out (soundsOf next [] (half lines)) (soundsOf (played next lines) [] rest))
     ∙ ap (λ (l : List ℕ). l ++ soundsOf (played next lines) [] rest) (sym (sounds-line line w [] (half lines) (f .0 .one) (f .0 .played)))
 
-held-played : (lines : List (List ℕ)) (w : World) → HeldMachine (machineOf w) → Every WellFormed lines → HeldMachine (machineOf (played w lines))
+pub held-played : (lines : List (List ℕ)) (w : World) → HeldMachine (machineOf w) → Every WellFormed lines → HeldMachine (machineOf (played w lines))
 held-played [] w h f = h
 held-played (line ∷ lines) w h f =
     let l = lineOf line in

@@ -2,3 +2,4 @@ pub mod Lines
 pub mod Fresh
 pub mod Cuts
 pub mod Loads
+pub mod Fed

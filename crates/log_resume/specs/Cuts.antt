@@ -10,9 +10,12 @@ use Rattle.log.specs.Lines.{lineOf}
 use Rattle.log.specs.Texts.{badLine}
 use Rattle.version.specs.declared.SguVersion.the-variants.{«V3_1»}
 use Rattle.s3w2.specs.Fresh.{madeCalled}
-use Rattle.log_player.specs.Worlds.{World, world}
+use Rattle.log_player.specs.Worlds.{World, world, freshPlayer, freshWorld}
 use Rattle.log_player.specs.Applied.{after, printed}
 use Rattle.log_player.specs.Logs.{malformed, endText}
+use Rattle.log_state.specs.Lines.{stateText}
+use Rattle.log_state.specs.Loads.{readLines, skipped}
+use Rattle.log_state.specs.Loads as load
 use Rattle.ties.specs.Ties.{Machine}
 use Rattle.resume.specs.Stops.{seen, resumed}
 
@@ -62,3 +65,13 @@ loadedMachine w = resumed (fresh (w .ram)) (seen (machineOf w))
 -- the peaks begin anew
 abbrev pub loaded : World → World
 loaded w = world (record { chip = loadedMachine w .chip; left = 0; right = 0 }) (loadedMachine w .ram) (loadedMachine w .queues)
+
+-- ---- THE CUT, as the programs make it
+-- `first` are the lines that s3w2-save plays, `second` is the log behind its state. What s3w2-save prints, the first half's `F`, `R` and `P` lines and then
+-- the state, is read by s3w2-load as `loaded`, with the RAM and the second half behind it; and the whole log prints the first half's lines and then those that the second
+-- half prints from there.
+pub record Fed (first : List (List ℕ)) (second : List ℕ) : Type 0 where
+  pub read : readLines 9 0 (freshPlayer 65536) (replicate 16384 (pos 0)) (skipped (soundsOf freshWorld [] (half first) ++ (stateText (played freshWorld first) ++ second)))
+      ≡ load.loaded (loaded (played freshWorld first) .player) (loaded (played freshWorld first) .queues) (played freshWorld first .ram ++ second)
+  pub heard : soundsOf freshWorld [] (half first ++ second)
+      ≡ soundsOf freshWorld [] (half first) ++ soundsOf (world (loaded (played freshWorld first) .player) (played freshWorld first .ram) (loaded (played freshWorld first) .queues)) [] second

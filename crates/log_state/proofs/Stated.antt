@@ -47,17 +47,17 @@ module _ (chip : Chip) (queues : List ℤ) (a : stateAccepted chip ≡ true) (q 
   line-put k out h = by-kind (eqb k 0) out (headText (chip .version)) (lineOf chip queues (k - 1)) h
 
 -- ---- texts without byte 10
-abbrev Goes : List ℕ → Type 0
+abbrev pub Goes : List ℕ → Type 0
 Goes l = (m : List ℕ) → firstLine (l ++ m) ≡ l ++ firstLine m
 
-both : (xs ys : List ℕ) → Goes xs → Goes ys → Goes (xs ++ ys)
+pub both : (xs ys : List ℕ) → Goes xs → Goes ys → Goes (xs ++ ys)
 both xs ys f g m = ap firstLine (append-assoc xs ys m) ∙ f (ys ++ m) ∙ ap (λ (l : List ℕ). xs ++ l) (g m) ∙ sym (append-assoc xs ys (firstLine m))
 
-one : (c : ℕ) → 10 < c → Goes (c ∷ [])
+pub one : (c : ℕ) → 10 < c → Goes (c ∷ [])
 unfolding firstLine
 one c h m = rw (ne-eqb c 10 (λ e. absurd (omega arith)))
 
-choice : (b : Bool) (xs ys : List ℕ) → Goes xs → Goes ys → Goes (cond b xs ys)
+pub choice : (b : Bool) (xs ys : List ℕ) → Goes xs → Goes ys → Goes (cond b xs ys)
 choice true xs ys f g = f
 choice false xs ys f g = g
 
@@ -72,7 +72,7 @@ decimal-goes : (n : ℕ) → Goes (decimal n)
 unfolding decimal
 decimal-goes n = digits-go (suc n) n
 
-render-goes : (z : ℤ) → Goes (render z)
+pub render-goes : (z : ℤ) → Goes (render z)
 unfolding render
 render-goes (pos n) = decimal-goes n
 render-goes (negsuc n) = both (45 ∷ []) (decimal (suc n)) (one 45 (omega arith)) (decimal-goes (suc n))
@@ -92,7 +92,7 @@ parts-go k (n ∷ ns) = both (partText k n) (partsText (suc k) ns) (part-goes k 
 pub record Ended (line : List ℕ) : Type 0 where
   pub text : List ℕ
   pub whole : line ≡ text ++ (10 ∷ [])
-  pub goes : (m : List ℕ) → firstLine (text ++ m) ≡ text ++ firstLine m
+  pub goes : Goes text
 
 line-ended : (ns : List ℕ) → Ended (lineText ns)
 unfolding lineText
@@ -125,7 +125,7 @@ module _ (line rest : List ℕ) (e : Ended line) where
       ∙ e .goes (10 ∷ rest)
       ∙ append-nil (e .text)
 
-  size : length line ≡ length (e .text) + 1
+  pub size : length line ≡ length (e .text) + 1
   size = ap length (e .whole) ∙ length-append (e .text) (10 ∷ [])
 
   behind : suc (length (firstLine (line ++ rest))) ≡ length line
@@ -134,7 +134,7 @@ module _ (line rest : List ℕ) (e : Ended line) where
   front-is : frontLine (line ++ rest) ≡ line
   front-is = ap (λ (n : ℕ). take n (line ++ rest)) behind ∙ take-append-seam line rest
 
-  behind-is : behindLine (line ++ rest) ≡ rest
+  pub behind-is : behindLine (line ++ rest) ≡ rest
   behind-is = ap (λ (n : ℕ). drop n (line ++ rest)) behind ∙ drop-append-seam line rest
 
   -- and one more line is read
@@ -160,7 +160,7 @@ module _ (chip : Chip) (queues : List ℤ) (k : ℕ) where
       go true e = head-ended (chip .version)
       go false e = voice-ended chip queues (k - 1) (omega arith)
 
-  no-sound : (rest : List ℕ) → soundLine (getD (stateLine chip queues k ++ rest) 0 0) k ≡ false
+  pub no-sound : (rest : List ℕ) → soundLine (getD (stateLine chip queues k ++ rest) 0 0) k ≡ false
   unfolding stateLine soundLine headText
   no-sound rest = go (eqb k 0) refl
     where

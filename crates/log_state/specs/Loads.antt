@@ -1,13 +1,15 @@
--- A state's lines read from the front of an input.
+-- A state's lines read from the front of an input, and those that a player printed before them.
+use mathlib.Core.Bool.{cond}
 use mathlib.Core.List.{List}
 use Prim.Native.Nat.{ℕ, zero, suc}
 use lib.IntN.{ℤ}
-use lib.ListN.{length, take, drop}
+use lib.ListN.{length, take, drop, getD}
 use Rattle.session.specs.declared.LineAnswer.{LineAnswer}
 use Rattle.session.specs.declared.LineAnswer.the-variants.{Done, Written, QueueBuffer, NotAccepted, TextBuffer, Malformed}
 use Rattle.log_player.specs.declared.Player.{Player}
 use Rattle.log_player.specs.Steps.{firstLine}
 use Rattle.log_state.specs.Lines.{takeLine, takeLineQueues}
+use Rattle.log_state.specs.Finding.{soundLine}
 
 -- the first line of an input with its byte 10, and what follows it
 abbrev pub frontLine : List ℕ → List ℕ
@@ -35,3 +37,12 @@ readLines zero k p queues input = loaded p queues input
 readLines (suc n) k p queues input =
     goesOn (takeLine p queues k (frontLine input) .answer)
     (readLines n (suc k) (takeLine p queues k (frontLine input) .player) (takeLineQueues p queues k (frontLine input)) (behindLine input))
+
+-- the lines that a player printed before a state are skipped, at most so many
+unfoldable pub skipLines : ℕ → List ℕ → List ℕ
+skipLines zero input = input
+skipLines (suc n) input = cond (soundLine (getD input 0 0) 0) (skipLines n (behindLine input)) input
+
+-- an input has fewer lines than bytes
+abbrev pub skipped : List ℕ → List ℕ
+skipped input = skipLines (length input) input
