@@ -1,4 +1,5 @@
 pub mod Mixing
 pub mod Steps
 pub mod Loads
+pub mod Equal
 pub mod Resumes

@@ -1,4 +1,5 @@
 pub mod Steps
+pub mod Equal
 pub mod Second
 pub mod Alike
 pub mod Resumes

@@ -11,7 +11,7 @@ use Rattle.s3w2.specs.Fresh.{madeCalled, madeRam}
 use Rattle.s3w2.specs.Refusals.{acceptsChip}
 use Rattle.session.specs.Voices.{lineOf}
 use Rattle.plain.specs.Models.{slots, plains}
-use Rattle.plain.specs.Chips.{Plain, World, freshPlain}
+use Rattle.plain.specs.Chips.{Plain, World, plain, freshPlain}
 use Rattle.world.specs.Whole.{row}
 use Rattle.calls.specs.Runs.{Ran, after, trace}
 use Rattle.calls.specs.Calls as list
@@ -83,3 +83,12 @@ module _ (version : SguVersion) (ram : List ℕ) (queues : List ℤ) (xs : List 
     pub ticks : ofVoices (worldOf (resumed second (seen stopped))) ys ≡ ofPlain plainStopped ys
     pub first-ticks : ofVoices (worldOf stopped) ys ≡ ofPlain plainStopped ys
     pub ticks-before : ofVoices (worldOf (made version ram queues)) xs ≡ ofPlain plainStart xs
+
+-- ---- texts and fields of two chips
+pub record SameTexts (one two : Machine) : Type 0 where
+  pub head : seen one .head ≡ seen two .head
+  pub lines : seen one .lines ≡ seen two .lines
+
+pub record SameFields (one two : Machine) : Type 0 where
+  pub version : one .chip .version ≡ two .chip .version
+  pub voices : plain (worldOf one) .voices ≡ plain (worldOf two) .voices

@@ -1,0 +1,47 @@
+-- The session texts of two chips are equal exactly when their versions and their session fields are. Assumes nothing.
+use mathlib.Core.Path.{_≡_, sym, ap, _∙_, subst}
+use mathlib.Core.List.{List}
+use Prim.Native.Nat.{ℕ}
+use native.Mathlib.Omega.{arith}
+use lib.ListN.{length, length-map}
+use Rattle.version.specs.declared.SguVersion.{SguVersion}
+use Rattle.plain.specs.Lists.{Every}
+use Rattle.plain.specs.Voices.{PlainVoice, plainOf}
+use Rattle.plain.specs.Chips.{plain}
+use Rattle.plain.specs.Good.{SlotOk, FitVoice}
+use Rattle.plain.proofs.Lists.{every-map}
+use Rattle.plain.proofs.Loads.{fit-plain}
+use Rattle.calls.specs.Seen.{Seen, linesFrom}
+use Rattle.calls.proofs.Equal.{same-versions, same-lines}
+use Rattle.told.specs.Session.{session}
+use Rattle.told.proofs.Read.{session-is-ok}
+use Rattle.ties.specs.Ties.{Machine}
+use Rattle.resume.specs.Stops.{seen, worldOf, SameTexts, SameFields}
+use Rattle.resume.proofs.Steps.{HeldMachine, seen-same}
+
+fields-fit : (m : Machine) → HeldMachine m → Every (FitVoice (m .chip .version)) (plain (worldOf m) .voices)
+fields-fit m h = every-map (SlotOk (m .chip .version) (m .ram)) (FitVoice (m .chip .version)) plainOf (λ s p. fit-plain (m .chip .version) (m .ram) s p) (worldOf m .voices) (h .good .voices)
+
+eight : (m : Machine) → HeldMachine m → length (plain (worldOf m) .voices) ≡ 8
+eight m h = length-map (worldOf m .voices) plainOf ∙ h .good .eight
+
+lines-of : (m : Machine) → HeldMachine m → seen m .lines ≡ linesFrom session 0 (plain (worldOf m) .voices)
+lines-of m h = ap (λ (s : Seen). s .lines) (seen-same m h)
+
+module _ (one two : Machine) (g : HeldMachine one) (h : HeldMachine two) where
+  pub texts-fields : SameTexts one two → SameFields one two
+  texts-fields t =
+      let e : one .chip .version ≡ two .chip .version = same-versions session session-is-ok (one .chip .version) (two .chip .version) (t .head) in
+      record {
+        version = e;
+        voices =
+            same-lines session session-is-ok (one .chip .version) 0 (plain (worldOf one) .voices) (plain (worldOf two) .voices) (eight one g ∙ sym (eight two h)) (omega (arith, eight one g)) (fields-fit one g)
+            (subst (λ (v : SguVersion). Every (FitVoice v) (plain (worldOf two) .voices)) (sym e) (fields-fit two h))
+            (sym (lines-of one g) ∙ t .lines ∙ lines-of two h);
+      }
+
+  pub fields-texts : SameFields one two → SameTexts one two
+  fields-texts f = record {
+    head = ap (session .headText) (f .version);
+    lines = lines-of one g ∙ ap (λ (l : List PlainVoice). linesFrom session 0 l) (f .voices) ∙ sym (lines-of two h);
+  }
