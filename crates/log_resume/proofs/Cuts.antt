@@ -12,11 +12,11 @@ use Rattle.num.proofs.Choice.{never}
 use Rattle.log.specs.Lines.{lineOf}
 use Rattle.log.specs.Texts.{badLine}
 use Rattle.log.proofs.Bytes.{line-fits}
-use Rattle.plain.specs.Lists.{Every}
+use Rattle.plain_chip.specs.Lists.{Every}
 use Rattle.log_player.specs.Worlds.{World, freshWorld}
 use Rattle.log_player.specs.Applied.{after, printed}
 use Rattle.log_player.specs.Logs.{malformed, restText}
-use Rattle.ties.proofs.Every.{tied}
+use Rattle.call_ties.proofs.Every.{tied}
 use Rattle.resume.proofs.Steps.{HeldMachine}
 use Rattle.resume.proofs.Alike.{Alike, resumed-alike}
 use Rattle.log_resume.specs.Cuts.{soundsOf, lastOf, noEnd, WellFormed, half, played, machineOf, fresh, loaded}

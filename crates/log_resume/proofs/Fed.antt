@@ -8,8 +8,8 @@ use lib.Dec.{eqb}
 use lib.IntN.{ℤ, pos}
 use lib.ListN.{getD, replicate}
 use Rattle.log.specs.Lines.{lineOf}
-use Rattle.plain.specs.Lists.{Every}
-use Rattle.ties.specs.Code.{code}
+use Rattle.plain_chip.specs.Lists.{Every}
+use Rattle.call_ties.specs.Code.{code}
 use Rattle.log_player.specs.Worlds.{World, world, freshPlayer, freshWorld}
 use Rattle.log_player.specs.Applied.{after, printed}
 use Rattle.log_player.specs.Logs.{malformed}

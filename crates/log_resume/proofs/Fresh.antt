@@ -12,11 +12,11 @@ use Rattle.voices.proofs.Voices.{fresh-sized}
 use Rattle.voices.proofs.Accepting.{fresh-accepted, core-accepted}
 use Rattle.s3w2.specs.Chips.{freshChip}
 use Rattle.s3w2.specs.Fresh.{madeCalled}
-use Rattle.plain.proofs.Fits.{bytes-replicate, entries-replicate}
-use Rattle.world.proofs.Frames.{ok-at}
+use Rattle.plain_chip.proofs.Fits.{bytes-replicate, entries-replicate}
+use Rattle.chip_slots.proofs.Frames.{ok-at}
 use Rattle.log_player.specs.Worlds.{freshWorld}
-use Rattle.ties.specs.Ties.{Machine, Held, Typed}
-use Rattle.ties.proofs.Made.{made-held}
+use Rattle.call_ties.specs.Ties.{Machine, Held, Typed}
+use Rattle.call_ties.proofs.Made.{made-held}
 use Rattle.resume.specs.Stops.{Second}
 use Rattle.resume.proofs.Steps.{HeldMachine}
 use Rattle.log_resume.specs.Cuts.{machineOf, fresh}

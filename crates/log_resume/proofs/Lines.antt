@@ -17,11 +17,11 @@ use Rattle.s3w2.specs.Registers.{readRegisterCalled, peekRegisterAnswer}
 use Rattle.log_player.specs.Worlds.{World}
 use Rattle.log_player.specs.Applied.{byteOf, silent, clocked, clockedText, playerAfter, ramAfter, queuesAfter, after, printed}
 use Rattle.log_player.specs.Logs.{malformed}
-use Rattle.calls.specs.Calls as list
-use Rattle.calls.specs.Calls.{Call, Reply}
-use Rattle.calls.specs.Seen.{FitCall}
-use Rattle.ties.specs.Ties.{Machine, Heard, replyOf}
-use Rattle.ties.specs.Code.{code}
+use Rattle.call_lists.specs.Calls as list
+use Rattle.call_lists.specs.Calls.{Call, Reply}
+use Rattle.call_lists.specs.Seen.{FitCall}
+use Rattle.call_ties.specs.Ties.{Machine, Heard, replyOf}
+use Rattle.call_ties.specs.Code.{code}
 use Rattle.resume.proofs.Alike.{Alike, same-answer, still-alike}
 use Rattle.log_resume.specs.Cuts.{machineOf}
 

@@ -13,21 +13,21 @@ use Rattle.session.specs.declared.LineCalled.{LineCalled}
 use Rattle.session.specs.Heads.{readHeadCalled}
 use Rattle.session.specs.Voices.{lineOf, voiceCalled, readVoiceCalled, readVoiceQueues}
 use Rattle.session.proofs.Lines.{goes-on}
-use Rattle.plain.specs.Voices.{PlainVoice, plainOf}
-use Rattle.plain.proofs.Loads.{fit-plain}
-use Rattle.world.specs.Whole.{row, slotAt}
-use Rattle.world.proofs.Frames.{ok-at}
-use Rattle.calls.specs.Runs.{after}
-use Rattle.calls.specs.Texts as texts
-use Rattle.calls.specs.Texts.{VoiceRead}
-use Rattle.calls.specs.Calls as list
-use Rattle.told.specs.Session.{voiceRead}
-use Rattle.told.proofs.Read.{session-is-ok}
-use Rattle.told.proofs.Written.{text-plain}
-use Rattle.ties.specs.Ties.{Machine, Held}
-use Rattle.ties.specs.Code.{code}
-use Rattle.ties.proofs.Accepting.{state-accepted}
-use Rattle.ties.proofs.Every.{tied}
+use Rattle.plain_chip.specs.Voices.{PlainVoice, plainOf}
+use Rattle.plain_chip.proofs.Loads.{fit-plain}
+use Rattle.chip_slots.specs.Whole.{row, slotAt}
+use Rattle.chip_slots.proofs.Frames.{ok-at}
+use Rattle.call_lists.specs.Runs.{after}
+use Rattle.call_lists.specs.Texts as texts
+use Rattle.call_lists.specs.Texts.{VoiceRead}
+use Rattle.call_lists.specs.Calls as list
+use Rattle.session_texts.specs.Session.{voiceRead}
+use Rattle.session_texts.proofs.Read.{session-is-ok}
+use Rattle.session_texts.proofs.Written.{text-plain}
+use Rattle.call_ties.specs.Ties.{Machine, Held}
+use Rattle.call_ties.specs.Code.{code}
+use Rattle.call_ties.proofs.Accepting.{state-accepted}
+use Rattle.call_ties.proofs.Every.{tied}
 use Rattle.resume.specs.Stops.{Second}
 use Rattle.resume.proofs.Steps.{HeldMachine}
 use Rattle.resume.proofs.Second.{headedChip, head-called, headed-held, read-on}

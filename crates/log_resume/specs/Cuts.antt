@@ -16,7 +16,7 @@ use Rattle.log_player.specs.Logs.{malformed, endText}
 use Rattle.log_state.specs.Lines.{stateText}
 use Rattle.log_state.specs.Loads.{readLines, skipped}
 use Rattle.log_state.specs.Loads as load
-use Rattle.ties.specs.Ties.{Machine}
+use Rattle.call_ties.specs.Ties.{Machine}
 use Rattle.resume.specs.Stops.{seen, resumed}
 
 -- the `F`, `R` and `P` lines that the rest of a log prints, of which the bytes `line` were read already; nothing behind a malformed line

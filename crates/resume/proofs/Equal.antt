@@ -5,17 +5,17 @@ use Prim.Native.Nat.{ℕ}
 use native.Mathlib.Omega.{arith}
 use lib.ListN.{length, length-map}
 use Rattle.version.specs.declared.SguVersion.{SguVersion}
-use Rattle.plain.specs.Lists.{Every}
-use Rattle.plain.specs.Voices.{PlainVoice, plainOf}
-use Rattle.plain.specs.Chips.{plain}
-use Rattle.plain.specs.Good.{SlotOk, FitVoice}
-use Rattle.plain.proofs.Lists.{every-map}
-use Rattle.plain.proofs.Loads.{fit-plain}
-use Rattle.calls.specs.Seen.{Seen, linesFrom}
-use Rattle.calls.proofs.Equal.{same-versions, same-lines}
-use Rattle.told.specs.Session.{session}
-use Rattle.told.proofs.Read.{session-is-ok}
-use Rattle.ties.specs.Ties.{Machine}
+use Rattle.plain_chip.specs.Lists.{Every}
+use Rattle.plain_chip.specs.Voices.{PlainVoice, plainOf}
+use Rattle.plain_chip.specs.Chips.{plain}
+use Rattle.plain_chip.specs.Good.{SlotOk, FitVoice}
+use Rattle.plain_chip.proofs.Lists.{every-map}
+use Rattle.plain_chip.proofs.Loads.{fit-plain}
+use Rattle.call_lists.specs.Seen.{Seen, linesFrom}
+use Rattle.call_lists.proofs.Equal.{same-versions, same-lines}
+use Rattle.session_texts.specs.Session.{session}
+use Rattle.session_texts.proofs.Read.{session-is-ok}
+use Rattle.call_ties.specs.Ties.{Machine}
 use Rattle.resume.specs.Stops.{seen, worldOf, SameTexts, SameFields}
 use Rattle.resume.proofs.Steps.{HeldMachine, seen-same}
 

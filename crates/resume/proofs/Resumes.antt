@@ -14,21 +14,21 @@ use Rattle.s3w2.specs.Answers.{isDone}
 use Rattle.s3w2.specs.Chips.{freshChip}
 use Rattle.s3w2.specs.Fresh.{madeCalled, madeRam}
 use Rattle.s3w2.specs.Refusals.{refusal}
-use Rattle.plain.specs.Lists.{Every}
-use Rattle.plain.specs.Models.{slots, plains}
-use Rattle.plain.specs.Chips.{World, Plain, plain, freshPlain}
-use Rattle.plain.specs.Good.{WorldOk}
-use Rattle.calls.specs.Runs.{Ran, after, trace}
-use Rattle.calls.specs.Calls as list
-use Rattle.calls.specs.Calls.{Call, readHead, readVoice, run}
-use Rattle.calls.specs.Seen as calls
-use Rattle.calls.specs.Seen.{Seen, FitCall, Accepted}
-use Rattle.calls.proofs.Resumes as lists
-use Rattle.told.specs.Session.{session}
-use Rattle.told.proofs.Read.{session-is-ok}
-use Rattle.ties.specs.Ties.{Machine}
-use Rattle.ties.specs.Code.{code}
-use Rattle.ties.proofs.Made.{made-held, made-plain}
+use Rattle.plain_chip.specs.Lists.{Every}
+use Rattle.plain_chip.specs.Models.{slots, plains}
+use Rattle.plain_chip.specs.Chips.{World, Plain, plain, freshPlain}
+use Rattle.plain_chip.specs.Good.{WorldOk}
+use Rattle.call_lists.specs.Runs.{Ran, after, trace}
+use Rattle.call_lists.specs.Calls as list
+use Rattle.call_lists.specs.Calls.{Call, readHead, readVoice, run}
+use Rattle.call_lists.specs.Seen as calls
+use Rattle.call_lists.specs.Seen.{Seen, FitCall, Accepted}
+use Rattle.call_lists.proofs.Resumes as lists
+use Rattle.session_texts.specs.Session.{session}
+use Rattle.session_texts.proofs.Read.{session-is-ok}
+use Rattle.call_ties.specs.Ties.{Machine}
+use Rattle.call_ties.specs.Code.{code}
+use Rattle.call_ties.proofs.Made.{made-held, made-plain}
 use Rattle.resume.specs.Stops.{seen, resumed, made, Second, ofPlain, ofVoices, told, worldOf, stopped, plainStart, plainStopped, Resumes}
 use Rattle.resume.proofs.Steps.{HeldMachine, held-after, world-after, chip-voices}
 use Rattle.resume.proofs.Second.{accepted, resumed-held, resumed-world}

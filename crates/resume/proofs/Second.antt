@@ -23,22 +23,22 @@ use Rattle.session.specs.declared.LineCalled.{LineCalled}
 use Rattle.session.specs.declared.LineAnswer.the-variants as lines
 use Rattle.session.specs.Answers as answers
 use Rattle.session.specs.Heads.{headCalled, readHeadCalled}
-use Rattle.plain.specs.Models.{slots}
-use Rattle.plain.specs.Chips as chips
-use Rattle.plain.specs.Chips.{World}
-use Rattle.plain.specs.Good.{WorldOk}
-use Rattle.world.proofs.Stores.{world-version}
-use Rattle.calls.specs.Runs.{after}
-use Rattle.calls.specs.Calls.{readHead, readVoice, run}
-use Rattle.calls.specs.Seen as calls
-use Rattle.calls.specs.Seen.{Accepted}
-use Rattle.calls.proofs.Resumes.{fit-lines, head-read, headed-good}
-use Rattle.told.specs.Session.{session}
-use Rattle.told.proofs.Read.{session-is-ok}
-use Rattle.ties.specs.Ties.{Machine, Held, Tied}
-use Rattle.ties.specs.Code.{code}
-use Rattle.ties.proofs.Accepting.{accepts-largest, state-none}
-use Rattle.ties.proofs.Made.{accepted-world}
+use Rattle.plain_chip.specs.Models.{slots}
+use Rattle.plain_chip.specs.Chips as chips
+use Rattle.plain_chip.specs.Chips.{World}
+use Rattle.plain_chip.specs.Good.{WorldOk}
+use Rattle.chip_slots.proofs.Stores.{world-version}
+use Rattle.call_lists.specs.Runs.{after}
+use Rattle.call_lists.specs.Calls.{readHead, readVoice, run}
+use Rattle.call_lists.specs.Seen as calls
+use Rattle.call_lists.specs.Seen.{Accepted}
+use Rattle.call_lists.proofs.Resumes.{fit-lines, head-read, headed-good}
+use Rattle.session_texts.specs.Session.{session}
+use Rattle.session_texts.proofs.Read.{session-is-ok}
+use Rattle.call_ties.specs.Ties.{Machine, Held, Tied}
+use Rattle.call_ties.specs.Code.{code}
+use Rattle.call_ties.proofs.Accepting.{accepts-largest, state-none}
+use Rattle.call_ties.proofs.Made.{accepted-world}
 use Rattle.resume.specs.Stops.{seen, resumed, Second, worldOf}
 use Rattle.resume.proofs.Steps.{HeldMachine, held-after, world-after, seen-same}
 

@@ -4,22 +4,22 @@ use mathlib.Core.List.{List, [], _∷_, map}
 use Prim.Native.Nat.{ℕ, zero, suc, _+_, _<_}
 use native.Mathlib.Omega.{arith}
 use Rattle.session.specs.Voices.{lineOf}
-use Rattle.plain.specs.Lists.{Every}
-use Rattle.plain.specs.Slots.{Slot}
-use Rattle.plain.specs.Voices.{plainOf}
-use Rattle.plain.specs.Models.{slots}
-use Rattle.plain.specs.Chips.{World}
-use Rattle.world.specs.Whole.{row, slotAt, slotsOf}
-use Rattle.world.proofs.Puts.{slot-at}
-use Rattle.calls.specs.Runs.{Ran, after}
-use Rattle.calls.specs.Calls.{Call, run}
-use Rattle.calls.specs.Seen as calls
-use Rattle.calls.specs.Seen.{FitCall, linesFrom}
-use Rattle.told.specs.Session.{session, plainText}
-use Rattle.ties.specs.Ties.{Machine, Held}
-use Rattle.ties.specs.Code.{code}
-use Rattle.ties.proofs.Lines.{line-same}
-use Rattle.ties.proofs.Every.{tied}
+use Rattle.plain_chip.specs.Lists.{Every}
+use Rattle.plain_chip.specs.Slots.{Slot}
+use Rattle.plain_chip.specs.Voices.{plainOf}
+use Rattle.plain_chip.specs.Models.{slots}
+use Rattle.plain_chip.specs.Chips.{World}
+use Rattle.chip_slots.specs.Whole.{row, slotAt, slotsOf}
+use Rattle.chip_slots.proofs.Puts.{slot-at}
+use Rattle.call_lists.specs.Runs.{Ran, after}
+use Rattle.call_lists.specs.Calls.{Call, run}
+use Rattle.call_lists.specs.Seen as calls
+use Rattle.call_lists.specs.Seen.{FitCall, linesFrom}
+use Rattle.session_texts.specs.Session.{session, plainText}
+use Rattle.call_ties.specs.Ties.{Machine, Held}
+use Rattle.call_ties.specs.Code.{code}
+use Rattle.call_ties.proofs.Lines.{line-same}
+use Rattle.call_ties.proofs.Every.{tied}
 use Rattle.resume.specs.Stops.{seen, ofChip, ofVoices, told, worldOf}
 
 abbrev pub HeldMachine : Machine → Type 0

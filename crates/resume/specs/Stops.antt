@@ -10,17 +10,17 @@ use Rattle.voice_line.specs.Head.{headText}
 use Rattle.s3w2.specs.Fresh.{madeCalled, madeRam}
 use Rattle.s3w2.specs.Refusals.{acceptsChip}
 use Rattle.session.specs.Voices.{lineOf}
-use Rattle.plain.specs.Models.{slots, plains}
-use Rattle.plain.specs.Chips.{Plain, World, plain, freshPlain}
-use Rattle.world.specs.Whole.{row}
-use Rattle.calls.specs.Runs.{Ran, after, trace}
-use Rattle.calls.specs.Calls as list
-use Rattle.calls.specs.Calls.{Call, readHead, readVoice, run}
-use Rattle.calls.specs.Seen as calls
-use Rattle.calls.specs.Seen.{Seen}
-use Rattle.told.specs.Session.{session}
-use Rattle.ties.specs.Ties.{world, Machine, Heard, Typed}
-use Rattle.ties.specs.Code.{code}
+use Rattle.plain_chip.specs.Models.{slots, plains}
+use Rattle.plain_chip.specs.Chips.{Plain, World, plain, freshPlain}
+use Rattle.chip_slots.specs.Whole.{row}
+use Rattle.call_lists.specs.Runs.{Ran, after, trace}
+use Rattle.call_lists.specs.Calls as list
+use Rattle.call_lists.specs.Calls.{Call, readHead, readVoice, run}
+use Rattle.call_lists.specs.Seen as calls
+use Rattle.call_lists.specs.Seen.{Seen}
+use Rattle.session_texts.specs.Session.{session}
+use Rattle.call_ties.specs.Ties.{world, Machine, Heard, Typed}
+use Rattle.call_ties.specs.Code.{code}
 
 -- the session text that `write_head` and `write_voice` write, and the RAM
 abbrev pub seen : Machine → Seen

@@ -1,0 +1,47 @@
+-- Texts tell fields apart: two chips of which the same text is seen have the same version and the same fields. Assumes nothing but what a
+-- session's lines promise (TextsOk).
+use mathlib.Core.Path.{_≡_, refl, sym, ap, ap₂, _∙_, subst}
+use mathlib.Core.List.{List, [], _∷_}
+use Prim.Native.Nat.{ℕ, suc, _+_, _≤_}
+use native.Mathlib.Omega.{arith}
+use lib.ListN.{length}
+use Rattle.version.specs.declared.SguVersion.{SguVersion}
+use Rattle.plain_chip.specs.Lists.{Every}
+use Rattle.plain_chip.specs.Voices.{PlainVoice, freshVoice}
+use Rattle.plain_chip.specs.Good.{FitVoice}
+use Rattle.call_lists.specs.Texts.{Texts, TextsOk, VoiceRead, voice, HeadRead, head}
+use Rattle.call_lists.specs.Seen.{linesFrom}
+
+versionIn : SguVersion → HeadRead → SguVersion
+versionIn other (head version) = version
+versionIn other (HeadRead.faulty field) = other
+
+fieldsIn : VoiceRead → PlainVoice
+fieldsIn (voice ch v) = v
+fieldsIn (VoiceRead.faulty field) = freshVoice
+
+first : List (List ℕ) → List ℕ
+first [] = []
+first (x ∷ l) = x
+
+rest : List (List ℕ) → List (List ℕ)
+rest [] = []
+rest (x ∷ l) = l
+
+module _ (t : Texts) (texts : TextsOk t) where
+  pub same-versions : (a b : SguVersion) → t .headText a ≡ t .headText b → a ≡ b
+  unfolding versionIn
+  same-versions a b e = ap (versionIn a) (sym (texts .head-back a) ∙ ap (t .readHead) e ∙ texts .head-back b)
+
+  one-same : (version : SguVersion) (k : ℕ) (v w : PlainVoice) → k + 1 ≤ 8 → FitVoice version v → FitVoice version w → t .voiceText k v ≡ t .voiceText k w → v ≡ w
+  unfolding fieldsIn
+  one-same version k v w h f g e = ap fieldsIn (sym (texts .voice-back version k v (omega arith) f) ∙ ap (t .readVoice version) e ∙ texts .voice-back version k w (omega arith) g)
+
+  pub same-lines : (version : SguVersion) (k : ℕ) (l m : List PlainVoice) → length l ≡ length m → k + length l ≤ 8 → Every (FitVoice version) l → Every (FitVoice version) m → linesFrom t k l ≡ linesFrom t k m → l ≡ m
+  unfolding first rest
+  same-lines version k [] [] n h f g e = refl
+  same-lines version k [] (w ∷ m) n h f g e = absurd (omega (arith, n))
+  same-lines version k (v ∷ l) [] n h f g e = absurd (omega (arith, n))
+  same-lines version k (v ∷ l) (w ∷ m) n h f g e =
+      ap₂ (λ (x : PlainVoice) (y : List PlainVoice). x ∷ y) (one-same version k v w (omega (arith, h)) (f .0) (g .0) (ap first e))
+      (same-lines version (suc k) l m (omega (arith, n)) (omega (arith, h)) (f .1) (g .1) (ap rest e))

@@ -1,0 +1,68 @@
+-- What is compared after each call, a session's reading by a second chip, and the calls' arguments.
+use mathlib.Core.Path.{_≡_}
+use mathlib.Core.List.{List, [], _∷_, map}
+use Prim.Native.Nat.{ℕ, suc, _<_}
+use lib.ListN.{length}
+use Rattle.version.specs.declared.SguVersion.{SguVersion}
+use Rattle.plain_chip.specs.Lists.{Every}
+use Rattle.plain_chip.specs.Voices.{PlainVoice}
+use Rattle.plain_chip.specs.Models.{Model, slots}
+use Rattle.plain_chip.specs.Chips.{Chip, World}
+use Rattle.plain_chip.specs.Good.{AcceptedSlot}
+use Rattle.call_lists.specs.Runs.{after}
+use Rattle.call_lists.specs.Texts.{Texts}
+use Rattle.call_lists.specs.Calls.{Call, reset, setVersion, resetChannel, writeRegister, readRegister, peekRegister, writeChannelControl, readChannelControl, writeChannelPcmReg, readChannelPcmReg, writeChannelWavetable, readChannelWavetable, wavetableLength, interpolates, writePcmRam, readPcmRam, generateSample, clock, clockMixed, clockMixedInto, clockMixedIntoI32, writeHead, readHead, writeVoice, readVoice, run}
+
+-- the session text, head and voice lines, and the RAM
+pub record Seen : Type 0 where
+  pub head : List ℕ
+  pub lines : List (List ℕ)
+  pub ram : List ℕ
+
+-- a line for each voice, from channel k up
+abbrev pub linesFrom : Texts → ℕ → List PlainVoice → List (List ℕ)
+linesFrom t k [] = []
+linesFrom t k (v ∷ l) = t .voiceText k v ∷ linesFrom t (suc k) l
+
+abbrev pub seenOf : Texts → SguVersion → List ℕ → List PlainVoice → Seen
+seenOf t version ram voices = record { head = t .headText version; lines = linesFrom t 0 voices; ram = ram }
+
+abbrev pub seen : {A : Type 0} → Model A → Texts → Chip A → Seen
+seen m t c = seenOf t (c .version) (c .ram) (map (m .session) (c .voices))
+
+-- a chip that reads a session's head and then its lines, in order
+abbrev pub resumed : Texts → World → Seen → World
+resumed t w s = after (run slots t) w (readHead (s .head) ∷ map readVoice (s .lines))
+
+-- a second chip in any accepted state: of its caches nothing is known
+pub record Accepted (w : World) : Type 0 where
+  pub voices : Every (AcceptedSlot (w .version) (length (w .ram))) (w .voices)
+  pub eight : length (w .voices) ≡ 8
+
+-- arguments that are bytes: a byte that is written, an offset in a wavetable
+abbrev pub FitCall : Call → Type 0
+FitCall reset = Unit {0}
+FitCall (setVersion version) = Unit {0}
+FitCall (resetChannel ch) = Unit {0}
+FitCall (writeRegister address value) = value < 256
+FitCall (readRegister address) = Unit {0}
+FitCall (peekRegister address) = Unit {0}
+FitCall (writeChannelControl ch offset value) = value < 256
+FitCall (readChannelControl ch offset) = Unit {0}
+FitCall (writeChannelPcmReg ch offset value) = value < 256
+FitCall (readChannelPcmReg ch offset) = Unit {0}
+FitCall (writeChannelWavetable ch at value) = (at < 256) × (value < 256)
+FitCall (readChannelWavetable ch at) = at < 256
+FitCall (wavetableLength ch) = Unit {0}
+FitCall (interpolates ch) = Unit {0}
+FitCall (writePcmRam address value) = value < 256
+FitCall (readPcmRam address) = Unit {0}
+FitCall (generateSample ch) = Unit {0}
+FitCall (clock n stems) = Unit {0}
+FitCall (clockMixed left right) = Unit {0}
+FitCall (clockMixedInto left right) = Unit {0}
+FitCall (clockMixedIntoI32 left right) = Unit {0}
+FitCall (writeHead out) = Unit {0}
+FitCall (readHead text) = Unit {0}
+FitCall (writeVoice ch out) = Unit {0}
+FitCall (readVoice text) = Unit {0}

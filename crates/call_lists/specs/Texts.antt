@@ -1,0 +1,34 @@
+-- What the session text asks of its lines: a head and a voice line written, and read.
+use mathlib.Core.Path.{_≡_}
+use mathlib.Core.List.{List}
+use Prim.Native.Nat.{ℕ, _<_}
+use Rattle.version.specs.declared.SguVersion.{SguVersion}
+use Rattle.plain_chip.specs.Voices.{PlainVoice}
+use Rattle.plain_chip.specs.Good.{FitVoice}
+
+-- the voice that a line names and its fields, or the first field at fault
+pub data VoiceRead : Type 0 where
+  voice : ℕ → PlainVoice → VoiceRead
+  faulty : ℕ → VoiceRead
+
+pub data HeadRead : Type 0 where
+  head : SguVersion → HeadRead
+  faulty : ℕ → HeadRead
+
+pub record Texts : Type 0 where
+  pub headText : SguVersion → List ℕ
+  pub readHead : List ℕ → HeadRead
+  -- the line of voice ch; empty above 7
+  pub voiceText : ℕ → PlainVoice → List ℕ
+  pub readVoice : SguVersion → List ℕ → VoiceRead
+
+-- what is read is one of the eight voices, its fields in their ranges
+abbrev pub Told : SguVersion → VoiceRead → Type 0
+Told version (voice ch v) = (ch < 8) × FitVoice version v
+Told version (faulty field) = Unit {0}
+
+-- what is written is read back
+pub record TextsOk (t : Texts) : Type 0 where
+  pub head-back : (version : SguVersion) → t .readHead (t .headText version) ≡ head version
+  pub told : (version : SguVersion) (text : List ℕ) → Told version (t .readVoice version text)
+  pub voice-back : (version : SguVersion) (ch : ℕ) (v : PlainVoice) → ch < 8 → FitVoice version v → t .readVoice version (t .voiceText ch v) ≡ voice ch v

@@ -1,0 +1,102 @@
+-- What ties a call of the chip to the call of the list.
+use mathlib.Core.Path.{_≡_}
+use mathlib.Core.Bool.{true}
+use mathlib.Core.List.{List, [], _∷_}
+use Prim.Native.Nat.{ℕ, _<_}
+use lib.IntN.{ℤ}
+use lib.ListN.{length}
+use Rattle.tone.specs.Pcm.{isRamLength}
+use Rattle.registers.specs.Queue.{FitEntries}
+use Rattle.voices.specs.Core.{channelAt}
+use Rattle.voices.specs.Accepted.{SizedCore}
+use Rattle.voices.specs.declared.Core.{Core}
+use Rattle.s3w2.specs.declared.Chip.{Chip}
+use Rattle.s3w2.specs.declared.Called.{Called}
+use Rattle.s3w2.specs.declared.Answer.{Answer}
+use Rattle.s3w2.specs.declared.Answer.the-variants.{Done, Byte, Sample, Count, Flag, RamLength, QueueBuffer, NotAccepted, StemBuffer}
+use Rattle.session.specs.declared.LineAnswer.{LineAnswer}
+use Rattle.session.specs.declared.LineAnswer.the-variants as lines
+use Rattle.session.specs.declared.LineCalled.{LineCalled}
+use Rattle.plain_chip.specs.Chips.{World}
+use Rattle.plain_chip.specs.Good.{Bytes, FitChannel, WorldOk}
+use Rattle.chip_slots.specs.Whole.{worldOf}
+use Rattle.call_lists.specs.Runs.{Ran}
+use Rattle.call_lists.specs.Calls as list
+use Rattle.call_lists.specs.Calls.{Reply, done, byte, count, flag, sample, refused}
+
+-- a chip with its lent RAM and queue buffer, as a world
+abbrev pub world : Chip → List ℕ → List ℤ → World
+world chip ram queues = worldOf (chip .version) (chip .core) ram queues
+
+-- the lengths that calls ask for, and a good world
+pub record Held (chip : Chip) (ram : List ℕ) (queues : List ℤ) : Type 0 where
+  pub allowed : isRamLength (length ram) ≡ true
+  pub sized : SizedCore (chip .core)
+  pub long : length queues ≡ 16384
+  pub good : WorldOk (world chip ram queues)
+
+-- what the types give a chip and a lent queue buffer
+pub record Typed (k : Core) (queues : List ℤ) : Type 0 where
+  pub sized : SizedCore k
+  pub fits : (j : ℕ) → j < 8 → FitChannel (channelAt k j)
+  pub bytes : Bytes (k .wavetables)
+  pub entries : FitEntries queues
+
+-- ---- what a call leaves: chip, RAM and queue buffer; its answer with the lent stems or sides and the lent text
+pub record Machine : Type 0 where
+  pub chip : Chip
+  pub ram : List ℕ
+  pub queues : List ℤ
+
+pub record Heard : Type 0 where
+  pub reply : Reply
+  pub sides : List (List ℤ)
+  pub text : List ℕ
+
+abbrev pub left : Chip → List ℕ → List ℤ → Reply → List (List ℤ) → List ℕ → Ran Machine Heard
+left chip ram queues reply sides text = record { next = record { chip = chip; ram = ram; queues = queues }; answer = record { reply = reply; sides = sides; text = text } }
+
+-- the list's reply that an answer is
+abbrev pub replyOf : Answer → Reply
+replyOf Done = done
+replyOf (Byte x) = byte x
+replyOf (Sample x) = sample x
+replyOf (Count x) = count x
+replyOf (Flag x) = flag x
+replyOf RamLength = refused 1 []
+replyOf QueueBuffer = refused 2 []
+replyOf NotAccepted = refused 3 []
+replyOf StemBuffer = refused 14 []
+
+-- a call without a text
+abbrev pub by : Called → List ℕ → List ℤ → List (List ℤ) → Ran Machine Heard
+by called ram queues sides = left (called .chip) ram queues (replyOf (called .answer)) sides []
+
+-- a call that only tells
+abbrev pub told : Chip → List ℕ → List ℤ → Answer → Ran Machine Heard
+told chip ram queues answer = left chip ram queues (replyOf answer) [] []
+
+-- ---- a session's lines
+abbrev pub lineReply : LineAnswer → Reply
+lineReply lines.Done = done
+lineReply (lines.Written n) = count n
+lineReply lines.QueueBuffer = refused 2 []
+lineReply lines.NotAccepted = refused 3 []
+lineReply lines.TextBuffer = refused 15 []
+lineReply (lines.Malformed field) = refused 16 (field ∷ [])
+
+-- one written to a lent text
+abbrev pub wroteBy : Chip → List ℕ → List ℤ → LineAnswer → List ℕ → Ran Machine Heard
+wroteBy chip ram queues answer text = left chip ram queues (lineReply answer) [] text
+
+-- one read
+abbrev pub readBy : LineCalled → List ℕ → List ℤ → Ran Machine Heard
+readBy called ram queues = left (called .chip) ram queues (lineReply (called .answer)) [] []
+
+-- ---- the list's call leaves and answers the same, and the next call can be made
+pub record Tied (y : Ran Machine Heard) (x : Ran World list.Answer) : Type 0 where
+  pub next : world (y .next .chip) (y .next .ram) (y .next .queues) ≡ x .next
+  pub reply : y .answer .reply ≡ x .answer .reply
+  pub sides : y .answer .sides ≡ x .answer .sides
+  pub text : y .answer .text ≡ x .answer .text
+  pub held : Held (y .next .chip) (y .next .ram) (y .next .queues)

@@ -1,0 +1,28 @@
+-- The chip with its lent buffers as voices with their own parts.
+use mathlib.Core.List.{List, [], _∷_}
+use Prim.Native.Nat.{ℕ, zero, suc}
+use lib.IntN.{ℤ}
+use Rattle.version.specs.declared.SguVersion.{SguVersion}
+use Rattle.voices.specs.Own.{Voice, voiceAt, queueAt}
+use Rattle.voices.specs.declared.Core.{Core}
+use Rattle.plain_chip.specs.Slots.{Slot}
+use Rattle.plain_chip.specs.Chips.{World}
+
+-- f 0, f 1, .. : n of them
+abbrev pub row : {A : Type 0} → ℕ → (ℕ → A) → List A
+row zero f = []
+row (suc n) f = f 0 ∷ row n (λ i. f (suc i))
+
+-- a voice with its own entries of the queue buffer
+abbrev pub slotWith : Voice → List ℤ → Slot
+slotWith v queue = record { channel = v .channel; fragments = v .fragments; wavetable = v .wavetable; queue = queue }
+
+-- voice ch of a core, with its own parts of the tables and of the queue buffer
+abbrev pub slotAt : Core → List ℤ → ℕ → Slot
+slotAt k q ch = slotWith (voiceAt k ch) (queueAt q ch)
+
+unfoldable pub slotsOf : Core → List ℤ → List Slot
+slotsOf k q = row 8 (slotAt k q)
+
+abbrev pub worldOf : SguVersion → Core → List ℕ → List ℤ → World
+worldOf version k ram q = record { version = version; ram = ram; voices = slotsOf k q }

@@ -1,0 +1,97 @@
+-- A voice's fields read from a session: the voice then has them, whatever it was; it is good. The fields of a good voice are in their
+-- ranges. Assumes nothing.
+use mathlib.Core.Path.{_≡_, refl, sym, ap, _∙_, subst}
+use mathlib.Core.List.{List, [], _∷_, _++_, append-nil}
+use Prim.Native.Nat.{ℕ, zero, suc, _+_, _%_, _≤_}
+use native.Mathlib.Omega.{arith}
+use lib.IntN.{ℤ, pos}
+use lib.ListN.{length, getD, take, drop, set, drop-of-length-le}
+use lib.Seq.{sets, sets-eq, length-sets, take-at}
+use mir.Syntax.{w16}
+use mir.Val.{SFits}
+use Rattle.num.proofs.Integers.{fit}
+use Rattle.num.proofs.Lists.{each-set}
+use Rattle.version.specs.declared.SguVersion.{SguVersion}
+use Rattle.registers.specs.Queue.{queued, FitEntries}
+use Rattle.registers.proofs.Ring.{length-queued, queued-part}
+use Rattle.voice.specs.Accepted.{acceptsStream}
+use Rattle.plain_chip.specs.Slots.{Slot}
+use Rattle.plain_chip.specs.Voices.{PlainVoice, plainOf, channelWith, slotLoaded}
+use Rattle.plain_chip.specs.Good.{Bytes, FitVoice, SlotOk}
+use Rattle.plain_chip.proofs.Kept.{coherent-none}
+
+-- ---- a list put over the start of another
+put-first : {A : Type 0} (l xs : List A) → length xs ≤ length l → take (length xs) (sets l 0 xs) ≡ xs
+put-first l xs h =
+    ap (take (length xs)) (sets-eq xs l 0 (omega arith))
+    ∙ take-at xs (drop (0 + length xs) l) (length xs) refl
+
+put-whole : {A : Type 0} (l xs : List A) → length xs ≡ length l → sets l 0 xs ≡ xs
+put-whole l xs h = sets-eq xs l 0 (omega arith) ∙ ap (λ (r : List _). xs ++ r) (drop-of-length-le l {i = 0 + length xs} (omega arith)) ∙ append-nil xs
+
+put-fits : (xs l : List ℤ) (at : ℕ) → FitEntries xs → FitEntries l → FitEntries (sets l at xs)
+put-fits [] l at f g = g
+put-fits (x ∷ xs) l at f g = put-fits xs (set l at x) (suc at) (record { each = λ i. f .each (suc i) }) (record { each = each-set (SFits w16) (pos 0) x (f .each 0) l (g .each) at })
+
+-- ---- the voice
+module _ (version : SguVersion) (v : PlainVoice) (s : Slot) (f : FitVoice version v) (table : length (s .wavetable) ≡ 256) (room : length (s .queue) ≡ 2048) where
+  line-loaded : queued (sets (s .queue) 0 (v .line .line)) 0 (length (v .line .line)) ≡ v .line .line
+  line-loaded =
+      queued-part (sets (s .queue) 0 (v .line .line)) 0 (length (v .line .line)) (omega (arith, f .full)) (let e = length-sets (s .queue) 0 (v .line .line) in omega (arith, f .full, e))
+      ∙ put-first (s .queue) (v .line .line) (omega (arith, f .full))
+
+  pub same-loaded : plainOf (slotLoaded v s) ≡ v
+  unfolding slotLoaded
+  same-loaded = λ i. record {
+    registers = v .registers;
+    pcm = v .pcm;
+    oscillator = v .oscillator;
+    line = record { line = line-loaded i; held = v .line .held; hold = v .line .hold; sub = v .line .sub; latch = v .line .latch };
+    wavetable = put-whole (s .wavetable) (v .wavetable) (f .table ∙ sym table) i;
+  }
+
+pub ok-loaded : (version : SguVersion) (ram : List ℕ) (v : PlainVoice) (s : Slot) → FitVoice version v → length (s .fragments) ≡ 128 → length (s .wavetable) ≡ 256 → length (s .queue) ≡ 2048 → FitEntries (s .queue)
+    → SlotOk version ram (slotLoaded v s)
+unfolding slotLoaded acceptsStream
+ok-loaded version ram v s f long table room entries =
+    let w : sets (s .wavetable) 0 (v .wavetable) ≡ v .wavetable = put-whole (s .wavetable) (v .wavetable) (f .table ∙ sym table) in
+    record {
+      accepted = record { registers = f .registers; pcm = f .pcm; oscillator = f .oscillator; fifo = record { full = f .full; first = omega arith; tick = f .tick; frames = f .frames }; stream = refl };
+      coherent = coherent-none version ram (channelWith v) (s .fragments) refl long;
+      fits = record { registers = f .fitRegisters; pcm = f .fitPcm; oscillator = f .fitOscillator; fifo = record { sample = f .held; byte = f .latch } };
+      table = ap length w ∙ f .table;
+      bytes = subst Bytes (sym w) (f .bytes);
+      room = length-sets (s .queue) 0 (v .line .line) ∙ room;
+      entries = put-fits (v .line .line) (s .queue) 0 (f .samples) entries;
+    }
+
+-- ---- the fields of a good voice
+cons-fits : (x : ℤ) (l : List ℤ) → SFits w16 x → FitEntries l → FitEntries (x ∷ l)
+cons-fits x l h f = record { each = go }
+  where
+    go : (i : ℕ) → SFits w16 (getD (x ∷ l) i (pos 0))
+    go zero = h
+    go (suc i) = f .each i
+
+queued-fits : (q : List ℤ) (h n : ℕ) → FitEntries q → FitEntries (queued q h n)
+unfolding queued
+queued-fits q h zero f = record { each = λ i. fit w16 _ (omega arith) (omega arith) }
+queued-fits q h (suc n) f = cons-fits (getD q (h % 2048) (pos 0)) (queued q (h + 1) n) (f .each (h % 2048)) (queued-fits q (h + 1) n f)
+
+pub fit-plain : (version : SguVersion) (ram : List ℕ) (s : Slot) → SlotOk version ram s → FitVoice version (plainOf s)
+fit-plain version ram s ok = record {
+  registers = ok .accepted .registers;
+  pcm = ok .accepted .pcm;
+  oscillator = ok .accepted .oscillator;
+  fitRegisters = ok .fits .registers;
+  fitPcm = ok .fits .pcm;
+  fitOscillator = ok .fits .oscillator;
+  full = let e = length-queued (s .queue) (s .channel .fifo .head) (s .channel .fifo .count) in omega (arith, e, ok .accepted .fifo .full);
+  samples = queued-fits (s .queue) (s .channel .fifo .head) (s .channel .fifo .count) (ok .entries);
+  held = ok .fits .fifo .sample;
+  frames = ok .accepted .fifo .frames;
+  tick = ok .accepted .fifo .tick;
+  latch = ok .fits .fifo .byte;
+  table = ok .table;
+  bytes = ok .bytes;
+}

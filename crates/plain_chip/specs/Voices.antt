@@ -1,0 +1,122 @@
+-- Document 01's plain chip, one voice of it: the session's fields of a voice, the queue as a list, oldest first. There is no
+-- cache and no queue head. What each call does to it is what the chip's channel does (crate voice), less the cache and the head.
+use mathlib.Core.Bool.{cond}
+use mathlib.Core.List.{List, []}
+use Prim.Native.Nat.{ℕ, _-_, _%_}
+use lib.Dec.{eqb, leb}
+use lib.IntN.{pos}
+use lib.ListN.{length, set}
+use lib.Seq.{sets}
+use Rattle.num.specs.Bits.{byteOf}
+use Rattle.version.specs.Versions.{has3ws8pna, hasSampleControl}
+use Rattle.version.specs.declared.SguVersion.{SguVersion}
+use Rattle.registers.specs.Waveforms.{waveformFrom, under}
+use Rattle.registers.specs.Control.{defaultRegisters, setWaveform, writeRegisters, readRegisters}
+use Rattle.registers.specs.Pcm.{defaultPcm, setSampleControl, writePcm, readPcm}
+use Rattle.registers.specs.Line.{Line, lineOf, linePushed}
+use Rattle.registers.specs.declared.Registers.{Registers}
+use Rattle.registers.specs.declared.PcmRegisters.{PcmRegisters}
+use Rattle.registers.specs.declared.WaveformType.{WaveformType}
+use Rattle.ticks.specs.Oscillators.{defaultOscillator, setPhase}
+use Rattle.ticks.specs.declared.Oscillator.{Oscillator}
+use Rattle.stream.specs.Cache.{emptied}
+use Rattle.voice.specs.declared.Channel.{Channel}
+use Rattle.voice.specs.Writes.{sampleOf, oscillatorRestarted}
+use Rattle.plain_chip.specs.Slots.{Slot, freshWavetable}
+
+pub record PlainVoice : Type 0 where
+  pub registers : Registers
+  pub pcm : PcmRegisters
+  pub oscillator : Oscillator
+  pub line : Line
+  pub wavetable : List ℕ
+
+-- the plain voice that a voice of the chip is
+abbrev pub plainOf : Slot → PlainVoice
+plainOf s = record {
+  registers = s .channel .registers;
+  pcm = s .channel .pcm;
+  oscillator = s .channel .oscillator;
+  line = lineOf (s .queue) (s .channel .fifo);
+  wavetable = s .wavetable;
+}
+
+-- ---- a voice with these fields: an empty cache, the queue's head at 0
+abbrev pub channelWith : PlainVoice → Channel
+channelWith v = record {
+  oscillator = v .oscillator;
+  fifo = record { head = 0; count = length (v .line .line); held = v .line .held; hold = v .line .hold; sub = v .line .sub; latch = v .line .latch };
+  stream = emptied;
+  pcm = v .pcm;
+  registers = v .registers;
+}
+
+-- what reading them from a session makes of a voice; other entries of the queue are untouched
+unfoldable pub slotLoaded : PlainVoice → Slot → Slot
+slotLoaded v s = record { channel = channelWith v; fragments = s .fragments; wavetable = sets (s .wavetable) 0 (v .wavetable); queue = sets (s .queue) 0 (v .line .line) }
+
+-- ---- a fresh voice
+abbrev pub emptyLine : Line
+emptyLine = record { line = []; held = pos 0; hold = 0; sub = 0; latch = 0 }
+
+abbrev pub freshVoice : PlainVoice
+freshVoice = record { registers = defaultRegisters; pcm = defaultPcm; oscillator = defaultOscillator; line = emptyLine; wavetable = freshWavetable }
+
+-- ---- one part set, the others as they were
+abbrev pub withRegisters : PlainVoice → Registers → PlainVoice
+withRegisters v x = record { registers = x; pcm = v .pcm; oscillator = v .oscillator; line = v .line; wavetable = v .wavetable }
+
+abbrev pub withPcm : PlainVoice → PcmRegisters → PlainVoice
+withPcm v x = record { registers = v .registers; pcm = x; oscillator = v .oscillator; line = v .line; wavetable = v .wavetable }
+
+abbrev pub withOscillator : PlainVoice → Oscillator → PlainVoice
+withOscillator v x = record { registers = v .registers; pcm = v .pcm; oscillator = x; line = v .line; wavetable = v .wavetable }
+
+abbrev pub withLine : PlainVoice → Line → PlainVoice
+withLine v x = record { registers = v .registers; pcm = v .pcm; oscillator = v .oscillator; line = x; wavetable = v .wavetable }
+
+abbrev pub withWavetable : PlainVoice → List ℕ → PlainVoice
+withWavetable v x = record { registers = v .registers; pcm = v .pcm; oscillator = v .oscillator; line = v .line; wavetable = x }
+
+abbrev pub withWaveform : PlainVoice → WaveformType → PlainVoice
+withWaveform v x = withRegisters v (setWaveform (v .registers) x)
+
+abbrev pub withLatch : PlainVoice → ℕ → PlainVoice
+withLatch v x = withLine v (record { line = v .line .line; held = v .line .held; hold = v .line .hold; sub = v .line .sub; latch = x })
+
+-- ---- a register is written: waveform (2), phase reset (10), queue (12 and 13), sample control (26), the others
+unfoldable pub plainWriteControl : SguVersion → ℕ → ℕ → PlainVoice → PlainVoice
+plainWriteControl version offset value v =
+    cond (eqb offset 2) (withWaveform v (under (waveformFrom value) version))
+    (cond (eqb offset 10) (withLine (withOscillator v (oscillatorRestarted (v .oscillator))) emptyLine)
+    (cond (eqb offset 12) (cond (has3ws8pna version) (withLatch v value) v)
+    (cond (eqb offset 13) (cond (has3ws8pna version) (withLine v (linePushed (v .line) (sampleOf (v .line .latch) value))) v)
+    (cond (eqb offset 26) (cond (hasSampleControl version) (withPcm v (setSampleControl (v .pcm) (value % 8))) v)
+    (withRegisters v (writeRegisters (v .registers) offset value))))))
+
+-- the PCM registers, counted from the first
+unfoldable pub plainWritePcm : ℕ → ℕ → PlainVoice → PlainVoice
+plainWritePcm offset value v = withPcm v (writePcm (v .pcm) offset value)
+
+unfoldable pub plainWriteWave : ℕ → ℕ → PlainVoice → PlainVoice
+plainWriteWave at value v = withWavetable v (set (v .wavetable) at value)
+
+-- ---- a register is read: 14 and 15 give the queue's count, its high byte first
+abbrev pub countByte : ℕ → ℕ → ℕ
+countByte offset count = cond (eqb offset 14) (byteOf 1 count) (byteOf 0 count)
+
+unfoldable pub plainRead : SguVersion → ℕ → PlainVoice → ℕ
+plainRead version offset v =
+    cond (leb offset 13) (readRegisters (v .registers) offset)
+    (cond (leb offset 15) (cond (has3ws8pna version) (countByte offset (length (v .line .line))) 0)
+    (cond (leb offset 25) (readPcm (v .pcm) (offset - 16))
+    (cond (eqb offset 26) (cond (hasSampleControl version) (v .pcm .«sample_control») 0)
+    0)))
+
+-- reading offset 10 clears the phase
+unfoldable pub plainAfterRead : ℕ → PlainVoice → PlainVoice
+plainAfterRead offset v = cond (eqb offset 10) (withOscillator v (setPhase (v .oscillator) 0)) v
+
+-- ---- another version: a FIFO voice becomes a wavetable voice where there is none; the queue is emptied
+unfoldable pub plainSetVersion : SguVersion → PlainVoice → PlainVoice
+plainSetVersion version v = withLine (withWaveform v (under (v .registers .«waveform_type») version)) emptyLine

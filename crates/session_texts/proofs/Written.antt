@@ -1,0 +1,47 @@
+-- The line written of a voice is that of its session's fields. Assumes nothing.
+use mathlib.Core.Path.{_≡_, sym, ap, ap₂, _∙_}
+use mathlib.Core.List.{List}
+use Prim.Native.Nat.{ℕ, _≤_, min}
+use native.Mathlib.Omega.{arith}
+use lib.IntN.{ℤ}
+use lib.ListN.{length}
+use lib.Seq.{take-length}
+use Rattle.version.specs.declared.SguVersion.{SguVersion}
+use Rattle.registers.specs.Queue.{queued, setCount}
+use Rattle.registers.proofs.Ring.{length-queued, queued-part}
+use Rattle.stream.specs.Cache.{emptied}
+use Rattle.voice.specs.Channel.{setFifo, setStream}
+use Rattle.voice_line.specs.Numbers.{lineOf}
+use Rattle.voice_line.specs.Lines.{voiceText, atStart, sessionOf}
+use Rattle.voice_line.proofs.Session.{same-text}
+use Rattle.plain_chip.specs.Slots.{Slot}
+use Rattle.plain_chip.specs.Voices.{PlainVoice, plainOf, channelWith}
+use Rattle.plain_chip.specs.Good.{SlotOk}
+use Rattle.session_texts.specs.Session.{plainText}
+
+-- the queue of a voice with these fields is their list
+pub own-line : (v : PlainVoice) → length (v .line .line) ≤ 2048 → lineOf (channelWith v .fifo) (v .line .line) ≡ v .line .line
+own-line v h =
+    let l = v .line .line in
+    let e : min (length l) 2048 ≡ length l = omega arith in
+    ap (queued l 0) e ∙ queued-part l 0 (length l) (omega arith) (omega arith) ∙ take-length l
+
+module _ (version : SguVersion) (ram : List ℕ) (s : Slot) (ok : SlotOk version ram s) where
+  abbrev queue : List ℤ
+  queue = queued (s .queue) (s .channel .fifo .head) (s .channel .fifo .count)
+
+  told-line : lineOf (s .channel .fifo) (s .queue) ≡ queue
+  told-line =
+      let e : min (s .channel .fifo .count) 2048 ≡ s .channel .fifo .count = omega (arith, ok .accepted .fifo .full) in
+      ap (queued (s .queue) (s .channel .fifo .head)) e
+
+  long : length queue ≡ s .channel .fifo .count
+  long = length-queued (s .queue) (s .channel .fifo .head) (s .channel .fifo .count)
+
+  fields-same : (ch : ℕ) → sessionOf ch (s .channel) (s .wavetable) (s .queue) ≡ sessionOf ch (channelWith (plainOf s)) (s .wavetable) queue
+  fields-same ch =
+      ap₂ (λ (n : ℕ) (l : List ℤ). record { number = ch; channel = setStream (setFifo (s .channel) (setCount (atStart (s .channel .fifo)) n)) emptied; wavetable = s .wavetable; samples = l })
+      (sym long) (told-line ∙ sym (own-line (plainOf s) (omega (arith, long, ok .accepted .fifo .full))))
+
+  pub text-plain : (ch : ℕ) → voiceText ch (s .channel) (s .wavetable) (s .queue) ≡ plainText ch (plainOf s)
+  text-plain ch = same-text ch ch (s .channel) (channelWith (plainOf s)) (s .wavetable) (s .wavetable) (s .queue) queue (fields-same ch)
