@@ -12,11 +12,11 @@ use lib.IntN.{ℤ, pos, negsuc, natAbs, _-ℤ_}
 use lib.ListN.{length, set, take, getD, length-append}
 use lib.Seq.{sets, set-out, length-sets, take-suc}
 use lib.Signed.{ltZ}
-use mir.Syntax.{w64}
+use mir.Syntax.{w16, w64}
 use mir.Val.{SFits, toZ, ofZ}
 use borrow.Author.Tests.{ltb-false, lt-ltb, le-ltb}
 use Rattle.num.specs.Integers.{down}
-use Rattle.num.proofs.Integers.{one-zero, z-eq, z-sub, back, ltZ-true, ltZ-false}
+use Rattle.num.proofs.Integers.{fit-up, fit-down, one-zero, z-eq, z-sub, back, ltZ-true, ltZ-false}
 use Rattle.decimal.specs.Written.{digitsIn, decimal, render, Put, each}
 
 enough : (f g n : ℕ) → n < f → n < g → digitsIn f n ≡ digitsIn g n
@@ -50,6 +50,12 @@ width-below (suc k) n h = elim (decLe 10 n) [ yes l ↦ omega (arith, width-more
 
 pub width-most : (n : ℕ) → n < 2 ^ 64 → length (decimal n) ≤ 20
 width-most n h = width-below 19 n (omega arith)
+
+-- a sample's numeral has at most six bytes
+pub sample-width : (z : ℤ) → SFits w16 z → length (render z) ≤ 6
+unfolding render
+sample-width (pos n) h = omega (arith, width-below 4 n (omega (arith, fit-up h)))
+sample-width (negsuc n) h = omega (arith, width-below 4 (suc n) (omega (arith, fit-down h)))
 
 -- ---- texts put one behind the other
 pub sets-append : (xs ys l : List ℕ) (i : ℕ) → sets l i (xs ++ ys) ≡ sets (sets l i xs) (i + length xs) ys

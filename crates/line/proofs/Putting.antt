@@ -7,16 +7,15 @@ use native.Mathlib.Nat.{add-zero}
 use native.Mathlib.Numerals.{add-one}
 use native.Mathlib.Omega.{arith}
 use lib.Dec.{leb, ltb}
-use lib.IntN.{ℤ, pos, negsuc}
+use lib.IntN.{ℤ}
 use lib.ListN.{length, take, drop, getD, length-append, take-append-drop}
 use lib.Seq.{take-suc, take-all}
 use mir.Syntax.{w16}
 use mir.Val.{SFits}
 use mir.ValLaws.{toZ-fits}
-use Rattle.num.proofs.Integers.{fit-up, fit-down}
 use borrow.Author.Tests.{eq-eqb, ne-eqb, lt-leb, lt-ltb, le-ltb, leb-true, leb-false}
 use Rattle.decimal.specs.Written.{decimal, render, Put}
-use Rattle.decimal.proofs.Writing.{put-append, width-below, width-most}
+use Rattle.decimal.proofs.Writing.{put-append, width-most, sample-width}
 use Rattle.line.specs.Table.{isSample, sampleOf}
 use Rattle.line.specs.Text.{fieldText, partText, partsText, lineText, writtenOf, putOf}
 use Rattle.line.specs.declared.Written.the-variants.{Length, TextBuffer}
@@ -93,17 +92,11 @@ pub sample-fits : (n : ℕ) → SFits w16 (sampleOf n)
 unfolding sampleOf
 sample-fits n = toZ-fits w16 (n % 65536) (record { fits = omega arith })
 
--- a sample's numeral has at most six bytes
-pub six : (z : ℤ) → SFits w16 z → length (render z) ≤ 6
-unfolding render
-six (pos n) h = omega (arith, width-below 4 n (omega (arith, fit-up h)))
-six (negsuc n) h = omega (arith, width-below 4 (suc n) (omega (arith, fit-down h)))
-
 pub field-most : (k n : ℕ) → n < 2 ^ 64 → length (fieldText k n) ≤ 20
 field-most k n h = go (isSample k) refl
   where
     go : (b : Bool) → isSample k ≡ b → length (fieldText k n) ≤ 20
-    go true e = rw (text-sample k n e) (omega (arith, six (sampleOf n) (sample-fits n)))
+    go true e = rw (text-sample k n e) (omega (arith, sample-width (sampleOf n) (sample-fits n)))
     go false e = rw (text-natural k n e) (width-most n h)
 
 pub width-part : (k n w : ℕ) → (k ≡ 0 → ⊥) → w ≡ length (fieldText k n) → w + 1 ≡ length (partText k n)

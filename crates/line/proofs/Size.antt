@@ -10,11 +10,11 @@ use lib.ListN.{length, length-append}
 use borrow.Author.Tests.{le-leb, ltb-true}
 use Rattle.num.proofs.Choice.{cond-by}
 use Rattle.decimal.specs.Written.{decimal}
-use Rattle.decimal.proofs.Writing.{width-below}
+use Rattle.decimal.proofs.Writing.{width-below, sample-width}
 use Rattle.line.specs.Table.{isSample, sampleOf, mostOf}
 use Rattle.line.specs.Text.{fieldText, partText, partsText, lineText}
 use Rattle.line.proofs.Ranges.{other-sample}
-use Rattle.line.proofs.Putting.{text-sample, text-natural, first-part, later-part, sample-fits, six}
+use Rattle.line.proofs.Putting.{text-sample, text-natural, first-part, later-part, sample-fits}
 use Rattle.line.proofs.Good.{Within, ahead, behind}
 use Rattle.line.proofs.Trip.{most-below}
 
@@ -43,7 +43,7 @@ unfolding widest
 field-size fifo k n h = go (isSample k) refl
   where
     go : (b : Bool) → isSample k ≡ b → length (fieldText k n) ≤ cond (isSample k) 6 (places 19 (mostOf fifo k))
-    go true e = rw (text-sample k n e, e) (six (sampleOf n) (sample-fits n))
+    go true e = rw (text-sample k n e, e) (sample-width (sampleOf n) (sample-fits n))
     go false e = rw (text-natural k n e, e) (digits-most 19 n (mostOf fifo k) h (omega (arith, most-below fifo k)))
 
 parts-size : (fifo : Bool) (k : ℕ) (ns : List ℕ) → Within fifo (suc k) ns → length (partsText (suc k) ns) ≤ widths fifo (suc k) (length ns)

@@ -1,4 +1,5 @@
 pub mod Commas
 pub mod Texts
+pub mod Lengths
 pub mod Long
 pub mod Bytes

@@ -1,10 +1,10 @@
 -- What a line does, by its kind. Assumes nothing.
 use mathlib.Core.Path.{_≡_, refl, sym, ap, _∙_}
 use mathlib.Core.List.{List, [], _∷_}
-use Prim.Native.Nat.{ℕ, zero, suc, _≤_, min}
+use Prim.Native.Nat.{ℕ, zero, suc, _*_, _≤_, min}
 use native.Mathlib.Omega.{arith}
 use lib.IntN.{ℤ, pos}
-use lib.ListN.{length, take, replicate}
+use lib.ListN.{length, take, replicate, length-replicate}
 use Rattle.decimal.specs.Written.{Put}
 use Rattle.decimal.proofs.Writing.{put-none}
 use Rattle.version.specs.Versions.{versionOf}
@@ -25,7 +25,7 @@ use Rattle.log_player.specs.Applied.{byteOf, clocked, clockedText, silen
 -- what `apply` promises
 abbrev pub Applied : World → Line → Player → List ℕ → List ℤ → List ℕ → List ℕ → ℕ → ℕ → Type 0
 Applied w line p ram queues out now at end =
-    (p ≡ playerAfter w line) × ((ram ≡ ramAfter w line) × ((queues ≡ queuesAfter w line) × Put out now at (printed w line) end))
+    (p ≡ playerAfter w line) × ((ram ≡ ramAfter w line) × ((queues ≡ queuesAfter w line) × (Put out now at (printed w line) end × (length (printed w line) ≤ 16000))))
 
 -- one line for another that equals it
 equal : (w : World) (line other : Line) (p : Player) (ram : List ℕ) (queues : List ℤ) (out now : List ℕ) (at end : ℕ) → line ≡ other → Applied w other p ram queues out now at end → Applied w line p ram queues out now at end
@@ -33,8 +33,8 @@ equal w line other p ram queues out now at end e a =
     (a .0 ∙ ap (playerAfter w) (sym e), (a .1 .0 ∙ ap (ramAfter w) (sym e), (a .1 .1 .0 ∙ ap (queuesAfter w) (sym e), rw e (a .1 .1 .1))))
 
 -- a line that prints nothing
-nothing : (out : List ℕ) (at same end : ℕ) → same ≡ min at (length out) → end ≡ same → Put out out at [] end
-nothing out at same end s e = put-none out at end (e ∙ s)
+nothing : (out : List ℕ) (at same end : ℕ) → same ≡ min at (length out) → end ≡ same → Put out out at [] end × (0 ≤ 16000)
+nothing out at same end s e = (put-none out at end (e ∙ s), omega arith)
 
 -- ---- lines that print nothing; `same` is the place at which they might have
 module _ (w : World) (line : Line) (p : Player) (out : List ℕ) (at same end : ℕ) where
@@ -62,19 +62,19 @@ module _ (w : World) (line : Line) (p : Player) (out : List ℕ) (at same end : 
 
 -- ---- lines that print
 module _ (w : World) (line : Line) (p : Player) (out now : List ℕ) (at end : ℕ) where
-  pub read-line : (a byte same : ℕ) (called : Called) → line ≡ Read a → called ≡ readRegisterCalled (w .player .chip) a → byte ≡ byteOf (called .answer) → Put out now at (readLine 82 a byte) same → p ≡ withChip (w .player) (called .chip) → end ≡ same → Applied w line p (w .ram) (w .queues) out now at end
+  pub read-line : (a byte same : ℕ) (called : Called) → line ≡ Read a → called ≡ readRegisterCalled (w .player .chip) a → byte ≡ byteOf (called .answer) → Put out now at (readLine 82 a byte) same × (length (readLine 82 a byte) ≤ 17) → p ≡ withChip (w .player) (called .chip) → end ≡ same → Applied w line p (w .ram) (w .queues) out now at end
   unfolding playerAfter ramAfter queuesAfter printed
   read-line a byte same called e c b t h r =
       equal w line (Read a) p (w .ram) (w .queues) out now at end e
-      (h ∙ ap (λ (k : Called). withChip (w .player) (k .chip)) c, (refl, (refl, rw (r, ← (b ∙ ap (λ (k : Called). byteOf (k .answer)) c)) t)))
+      (h ∙ ap (λ (k : Called). withChip (w .player) (k .chip)) c, (refl, (refl, rw (r, ← (b ∙ ap (λ (k : Called). byteOf (k .answer)) c)) (t .0, omega (arith, t .1)))))
 
-  pub peek-line : (a byte same : ℕ) (answer : Answer) → line ≡ Peek a → answer ≡ peekRegisterAnswer (w .player .chip) a → byte ≡ byteOf answer → Put out now at (readLine 80 a byte) same → p ≡ w .player → end ≡ same → Applied w line p (w .ram) (w .queues) out now at end
+  pub peek-line : (a byte same : ℕ) (answer : Answer) → line ≡ Peek a → answer ≡ peekRegisterAnswer (w .player .chip) a → byte ≡ byteOf answer → Put out now at (readLine 80 a byte) same × (length (readLine 80 a byte) ≤ 17) → p ≡ w .player → end ≡ same → Applied w line p (w .ram) (w .queues) out now at end
   unfolding playerAfter ramAfter queuesAfter printed
   peek-line a byte same answer e c b t h r =
       equal w line (Peek a) p (w .ram) (w .queues) out now at end e
-      (h, (refl, (refl, rw (r, ← (b ∙ ap byteOf c)) t)))
+      (h, (refl, (refl, rw (r, ← (b ∙ ap byteOf c)) (t .0, omega (arith, t .1)))))
 
-  pub clock-line : (n : ℕ) (queues : List ℤ) → line ≡ Clock n → p ≡ clocked (w .player) (w .ram) (w .queues) (silent n) (silent n) → queues ≡ w .queues → Put out now at (clockedText (w .player .chip) (w .ram) (w .queues) (silent n) (silent n)) end → Applied w line p (w .ram) queues out now at end
+  pub clock-line : (n : ℕ) (queues : List ℤ) → line ≡ Clock n → p ≡ clocked (w .player) (w .ram) (w .queues) (silent n) (silent n) → queues ≡ w .queues → Put out now at (clockedText (w .player .chip) (w .ram) (w .queues) (silent n) (silent n)) end × (length (clockedText (w .player .chip) (w .ram) (w .queues) (silent n) (silent n)) ≤ 16000) → Applied w line p (w .ram) queues out now at end
   unfolding playerAfter ramAfter queuesAfter printed
   clock-line n queues e h q t = equal w line (Clock n) p (w .ram) queues out now at end e (h, (refl, (q, t)))
 
@@ -94,7 +94,16 @@ module _ (p : Player) (ram : List ℕ) (queues left right l r : List ℤ) where
   unfolding clockedText
   frames-printed out now at end x y t = rw (x, y) at t
 
+  pub frames-short : (n : ℕ) → l ≡ clockMixedLeft (p .chip) ram queues left right → r ≡ clockMixedRight (p .chip) ram queues left right → length l ≡ n → length (frameLines l r (min (length l) (length r))) ≤ 16 * min (length l) (length r) → length (clockedText (p .chip) ram queues left right) ≤ 16 * n
+  unfolding clockedText
+  frames-short n x y k t =
+      let s : length (frameLines l r (min (length l) (length r))) ≤ 16 * n = omega (arith, t, k) in
+      rw (x, y) at s
+
 -- ---- a part of zeros
+pub silent-short : (frames n : ℕ) → n ≤ 16 * length (silent frames) → n ≤ 16000
+silent-short frames n h = omega (arith, h, length-replicate (min frames 1000) (pos 0))
+
 pub take-replicate : (n m : ℕ) (z : ℤ) → n ≤ m → take n (replicate m z) ≡ replicate n z
 take-replicate zero m z h = refl
 take-replicate (suc n) zero z h = absurd (omega arith)

@@ -106,7 +106,7 @@ well-formed Malformed k = absurd (miss (0 ∷ 1 ∷ 2 ∷ 3 ∷ 4 ∷ 5 ∷ []) 
 -- ---- what `step` promises, where the next thing is known
 abbrev pub Steps : World → ℕ → Next → List ℕ → Next → Player → List ℕ → List ℤ → List ℕ → List ℕ → ℕ → ℕ → Type 0
 Steps w number n line next p ram queues out now at end =
-    (next ≡ n) × ((p ≡ stepAfter w n line .player) × ((ram ≡ stepAfter w n line .ram) × ((queues ≡ stepAfter w n line .queues) × Put out now at (stepText w number n line) end)))
+    (next ≡ n) × ((p ≡ stepAfter w n line .player) × ((ram ≡ stepAfter w n line .ram) × ((queues ≡ stepAfter w n line .queues) × (Put out now at (stepText w number n line) end × (length (stepText w number n line) ≤ 16000)))))
 
 pub step-is : (w : World) (number : ℕ) (n m : Next) (line : List ℕ) (next : Next) (p : Player) (ram : List ℕ) (queues : List ℤ) (out now : List ℕ) (at end : ℕ) → n ≡ m → Steps w number m line next p ram queues out now at end → Steps w number n line next p ram queues out now at end
 step-is w number n m line next p ram queues out now at end e h = rw e h

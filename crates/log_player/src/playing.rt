@@ -1,5 +1,6 @@
 // One line played.
 ghost use mathlib.Core.Path.{_≡_};
+ghost use Prim.Native.Nat.{_*_, _≤_};
 ghost use lib.ListN.{length};
 ghost use Rattle.decimal.specs.Written.{Put};
 ghost use Rattle.s3w2.specs.Fresh.{madeRam};
@@ -69,6 +70,7 @@ impl Player {
         ensures { λ r. ⌜ r .player ≡ clocked self (now (ram .entry)) (now (queues .entry)) (now (left .entry)) (now (right .entry)) ⌝ }
         ensures { λ _. ⌜ now (queues .exit) ≡ now (queues .entry) ⌝ }
         ensures { λ r. ⌜ Put (now (out .entry)) (now (out .exit)) at (clockedText (self .chip) (now (ram .entry)) (now (queues .entry)) (now (left .entry)) (now (right .entry))) (r .end) ⌝ }
+        ensures { λ _. ⌜ length (clockedText (self .chip) (now (ram .entry)) (now (queues .entry)) (now (left .entry)) (now (right .entry))) ≤ 16 * length (now (left .entry)) ⌝ }
     {
         let chip = self.chip;
         let called = chip.clock_mixed(ram, queues, &mut *left, &mut *right);
@@ -86,6 +88,7 @@ impl Player {
         ensures { λ r. ⌜ r .player ≡ clocked self (now (ram .entry)) (now (queues .entry)) (silent frames) (silent frames) ⌝ }
         ensures { λ _. ⌜ now (queues .exit) ≡ now (queues .entry) ⌝ }
         ensures { λ r. ⌜ Put (now (out .entry)) (now (out .exit)) at (clockedText (self .chip) (now (ram .entry)) (now (queues .entry)) (silent frames) (silent frames)) (r .end) ⌝ }
+        ensures { λ _. ⌜ length (clockedText (self .chip) (now (ram .entry)) (now (queues .entry)) (silent frames) (silent frames)) ≤ 16000 ⌝ }
     {
         let mut left = [0i16; 1000];
         let mut right = [0i16; 1000];
@@ -107,6 +110,7 @@ impl Player {
         ensures { λ _. ⌜ now (ram .exit) ≡ ramAfter (world self (now (ram .entry)) (now (queues .entry))) line ⌝ }
         ensures { λ _. ⌜ now (queues .exit) ≡ queuesAfter (world self (now (ram .entry)) (now (queues .entry))) line ⌝ }
         ensures { λ r. ⌜ Put (now (out .entry)) (now (out .exit)) at (printed (world self (now (ram .entry)) (now (queues .entry))) line) (r .end) ⌝ }
+        ensures { λ _. ⌜ length (printed (world self (now (ram .entry)) (now (queues .entry))) line) ≤ 16000 ⌝ }
     {
         let chip = self.chip;
         let same = num::least(at, out.len());

@@ -1,22 +1,23 @@
 // The lines of an input, one after the other.
 ghost use mathlib.Core.Path.{_≡_};
-ghost use mathlib.Core.Bool.{true};
-ghost use Prim.Native.Nat.{_+_, _-_, _<_, _^_};
+ghost use mathlib.Core.Bool.{true, false};
+ghost use Prim.Native.Nat.{ℕ, _+_, _-_, _<_, _^_};
 ghost use lib.ListN.{length, take, drop};
 ghost use Rattle.num.specs.Lists.{part};
-ghost use Rattle.log_player.specs.declared.Next.the-variants.{Rest};
+ghost use Rattle.log_player.specs.declared.Next.the-variants.{Line, Rest};
 ghost use Rattle.log_player.specs.Worlds.{world};
 ghost use Rattle.log_player.specs.Steps.{nextOf};
-ghost use Rattle.log_player.specs.Runs.{Runs, ranTo};
+ghost use Rattle.log_player.specs.Runs.{hasRoom, Runs, ranTo};
 use crate::Next;
 use crate::Player;
 use crate::Ran;
 
-// Room for the text of any line: of 1,000 frames, 16 bytes each.
+// Room for the text of any line: it has at most 16,000 bytes, of 1,000 frames.
 const ROOM: usize = 16384;
 
 // Whether there is room behind `end` for a line's text, and a number for the line behind it.
 fn has_room(length: usize, end: usize, number: u64) -> bool
+    ensures { λ r. ⌜ r ≡ hasRoom length end number ⌝ }
     ensures { λ r. ⌜ (r ≡ true → number + 1 < 2 ^ 64) ⌝ }
 {
     if number == 0xffff_ffff_ffff_ffff {
@@ -58,6 +59,7 @@ impl Player {
     ) -> Ran
         ensures { λ r. ⌜ Runs (world self (now (ram .entry)) (now (queues .entry))) number (drop from (now (input .entry))) (world (r .player) (now (ram .exit)) (now (queues .exit))) (r .number) (r .next) (drop (r .from) (now (input .entry))) (now (out .entry)) (now (out .exit)) (r .end) ⌝ }
         ensures { λ r. ⌜ (r .next ≡ Rest → nextOf (drop (r .from) (now (input .entry))) (r .from) ≡ Rest) ⌝ }
+        ensures { λ r. ⌜ ((place : ℕ) → r .next ≡ Line place → hasRoom (length (now (out .entry))) (r .end) (r .number) ≡ false) ⌝ }
     {
         let mut player = self;
         let mut place = from;

@@ -1,6 +1,6 @@
 // The next line of an input, and the end of one.
 ghost use mathlib.Core.Path.{_≡_};
-ghost use Prim.Native.Nat.{_+_};
+ghost use Prim.Native.Nat.{_+_, _≤_};
 ghost use lib.ListN.{length, drop};
 ghost use Rattle.decimal.specs.Written.{Put};
 ghost use Rattle.log_player.specs.Worlds.{world};
@@ -55,6 +55,7 @@ impl Player {
         ensures { λ _. ⌜ now (ram .exit) ≡ stepAfter (world self (now (ram .entry)) (now (queues .entry))) (nextOf (drop from (now (input .entry))) from) (firstLine (drop from (now (input .entry)))) .ram ⌝ }
         ensures { λ _. ⌜ now (queues .exit) ≡ stepAfter (world self (now (ram .entry)) (now (queues .entry))) (nextOf (drop from (now (input .entry))) from) (firstLine (drop from (now (input .entry)))) .queues ⌝ }
         ensures { λ r. ⌜ Put (now (out .entry)) (now (out .exit)) at (stepText (world self (now (ram .entry)) (now (queues .entry))) number (nextOf (drop from (now (input .entry))) from) (firstLine (drop from (now (input .entry))))) (r .end) ⌝ }
+        ensures { λ _. ⌜ length (stepText (world self (now (ram .entry)) (now (queues .entry))) number (nextOf (drop from (now (input .entry))) from) (firstLine (drop from (now (input .entry))))) ≤ 16000 ⌝ }
     {
         let same = num::least(at, out.len());
         if input.len() <= from {

@@ -1,5 +1,6 @@
 use borrow.Author.Needs.{needs}
 use Rattle.log.proofs.Texts.{bad-put}
+use Rattle.log.proofs.Lengths.{bad-length}
 use Rattle.log.proofs.text.put_bad.Statement.{statement}
 use Rattle.log.proofs.text.put_bad.Tie as tie
 
@@ -22,7 +23,7 @@ same-length : tie.Need-same-length
 same-length c = search needs
 
 returns : tie.Need-returns
-returns c = bad-put _ _ _ _ _ _ _ _ _ (c .before .before .before .before .before .before .before .before .before .before .before .put-text .ensures) (c .before .before .before .before .before .before .before .put-natural .ensures) (c .before .before .put-text2 .ensures)
+returns c = (bad-put _ _ _ _ _ _ _ _ _ (c .before .before .before .before .before .before .before .before .before .before .before .put-text .ensures) (c .before .before .before .before .before .before .before .put-natural .ensures) (c .before .before .put-text2 .ensures), bad-length _ (search needs))
 
 pub put-bad-spec : {M : Type 1} → statement M
 put-bad-spec =

@@ -1,8 +1,8 @@
 use borrow.Author.Needs.{needs}
 use mathlib.Core.Path.{_≡_}
-use Prim.Native.Nat.{_≤_, _-_}
+use Prim.Native.Nat.{_*_, _≤_, _-_}
 use native.Mathlib.Omega.{arith}
-use lib.ListN.{getD}
+use lib.ListN.{length, getD}
 use lib.IntN.{pos}
 use mir.Val.{SFits}
 use mir.Syntax.{w16}
@@ -11,11 +11,12 @@ use Rattle.decimal.specs.Written.{Put}
 use Rattle.decimal.proofs.Writing.{put-long}
 use Rattle.log.specs.Texts.{frameLines}
 use Rattle.log.proofs.Texts.{frames-none, frames-next}
+use Rattle.log.proofs.Lengths.{frames-length-none, frames-length-next}
 use Rattle.log.proofs.text.put_frames.Statement.{statement}
 use Rattle.log.proofs.text.put_frames.Tie as tie
 
 abbrev Inv-loop : tie.InvT-loop
-Inv-loop out₀ at left right frames end₀ i₀ out end i = (i ≤ frames) × Put out₀ out at (frameLines left right i) end
+Inv-loop out₀ at left right frames end₀ i₀ out end i = (i ≤ frames) × (length (frameLines left right i) ≤ 16 * i) × Put out₀ out at (frameLines left right i) end
 
 abbrev μ-loop : tie.MeasureT-loop
 μ-loop out₀ at left right frames end₀ i₀ out end i = frames - i
@@ -27,7 +28,7 @@ least-requires-2 : tie.Need-least-requires-2 Inv-loop μ-loop
 least-requires-2 c κs = search needs
 
 loop-holds : tie.Need-loop-holds Inv-loop μ-loop
-loop-holds c = (omega arith, frames-none _ (c .before .before .before .args .left .now) (c .before .before .before .args .right .now) _ _ (c .least2 .ensures))
+loop-holds c = (omega arith, frames-length-none _ _, frames-none _ (c .before .before .before .args .left .now) (c .before .before .before .args .right .now) _ _ (c .least2 .ensures))
 
 mul-put-frame : tie.Need-mul-put-frame Inv-loop μ-loop
 mul-put-frame c = search needs
@@ -55,15 +56,15 @@ loop-again c =
     let start = c .before .before .before .before .before .before .before .before .before .before .before in
     let l : SFits w16 (getD (start .args .left .now) (c .before .before .before .before .before .before .before .loop .i) (pos 0)) = record { sfits = c .before .before .before .before .put-frame-arg2 .given } in
     let r : SFits w16 (getD (start .args .right .now) (c .before .before .before .before .before .before .before .loop .i) (pos 0)) = record { sfits = c .before .before .before .put-frame-arg3 .given } in
-    (omega arith, frames-next (start .args .out .now) _ _ (start .args .left .now) (start .args .right .now) (start .args .at) _ _ (c .before .before .before .before .before .before .before .loop .i) (c .before .before .before .before .before .before .before .loop .inv .1) (rw (back w16 _ l, back w16 _ r) at (c .before .before .put-frame .ensures)))
+    (omega arith, frames-length-next (start .args .left .now) (start .args .right .now) (c .before .before .before .before .before .before .before .loop .i) (c .before .before .before .before .before .before .before .loop .inv .1) l r, frames-next (start .args .out .now) _ _ (start .args .left .now) (start .args .right .now) (start .args .at) _ _ (c .before .before .before .before .before .before .before .loop .i) (c .before .before .before .before .before .before .before .loop .inv .2) (rw (back w16 _ l, back w16 _ r) at (c .before .before .put-frame .ensures)))
 
 same-length : tie.Need-same-length Inv-loop μ-loop
-same-length c = put-long (c .before .before .before .before .before .args .out .now) _ (c .before .before .before .before .before .args .at) (c .before .loop .end) (frameLines (c .before .before .before .before .before .args .left .now) (c .before .before .before .before .before .args .right .now) (c .before .loop .i)) (c .before .loop .inv .1)
+same-length c = put-long (c .before .before .before .before .before .args .out .now) _ (c .before .before .before .before .before .args .at) (c .before .loop .end) (frameLines (c .before .before .before .before .before .args .left .now) (c .before .before .before .before .before .args .right .now) (c .before .loop .i)) (c .before .loop .inv .2)
 
 returns : tie.Need-returns Inv-loop μ-loop
 returns c =
     let all : c .before .loop .i ≡ c .before .before .before .least .result = omega arith in
-    rw (all, c .before .before .before .least .ensures) at (c .before .loop .inv .1)
+    (rw (all, c .before .before .before .least .ensures) at (c .before .loop .inv .2), rw (all, c .before .before .before .least .ensures) at (c .before .loop .inv .1))
 
 pub put-frames-spec : {M : Type 1} → statement M
 put-frames-spec =

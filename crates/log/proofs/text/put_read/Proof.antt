@@ -1,5 +1,6 @@
 use borrow.Author.Needs.{needs}
 use Rattle.log.proofs.Texts.{wide}
+use Rattle.log.proofs.Lengths.{read-length}
 use Rattle.log.proofs.text.put_read.Statement.{statement}
 use Rattle.log.proofs.text.put_read.Tie as tie
 
@@ -21,7 +22,7 @@ same-length c = search needs
 returns : tie.Need-returns
 returns c =
     let start = c .before .before .before .before .before .before in
-    rw (wide (start .args .address) (search needs), wide (start .args .byte) (search needs)) at (c .before .before .put-pair .ensures)
+    (rw (wide (start .args .address) (search needs), wide (start .args .byte) (search needs)) at (c .before .before .put-pair .ensures), read-length _ (start .args .address) (start .args .byte) (search needs) (search needs))
 
 pub put-read-spec : {M : Type 1} → statement M
 put-read-spec =

@@ -1,7 +1,7 @@
 use borrow.Author.Needs.{needs}
 use mathlib.Core.Path.{sym}
 use lib.Seq.{length-take-le}
-use Rattle.log_player.proofs.Applies.{zeros-are}
+use Rattle.log_player.proofs.Applies.{zeros-are, silent-short}
 use Rattle.log_player.proofs.Player.clock.Statement.{statement}
 use Rattle.log_player.proofs.Player.clock.Tie as tie
 
@@ -30,7 +30,9 @@ same-length-2 : tie.Need-same-length-2
 same-length-2 c = search needs
 
 returns : tie.Need-returns
-returns c = rw (zeros-are _ _ (c .before .before .before .before .before .before .before .before .before .before .least .ensures)) at (c .before .before .before .before .before .clock-over .ensures)
+returns c =
+    let e = rw (zeros-are _ _ (c .before .before .before .before .before .before .before .before .before .before .least .ensures)) at (c .before .before .before .before .before .clock-over .ensures) in
+    (e .0, (e .1 .0, (e .1 .1 .0, silent-short (c .before .before .before .before .before .before .before .before .before .before .before .before .before .args .frames) _ (e .1 .1 .1))))
 
 pub clock-spec : {M : Type 1} → statement M
 clock-spec =

@@ -1,5 +1,5 @@
 use borrow.Author.Needs.{needs}
-use Rattle.log_player.proofs.Applies.{frames-played, frames-printed}
+use Rattle.log_player.proofs.Applies.{frames-played, frames-printed, frames-short}
 use Rattle.log_player.proofs.Player.clock_over.Statement.{statement}
 use Rattle.log_player.proofs.Player.clock_over.Tie as tie
 
@@ -31,7 +31,7 @@ returns : tie.Need-returns
 returns c =
     let start = c .before .before .before .before .before .before .before .before .before .before .before .before .before .before .before .before .before .before .before .before .before in
     let mixed = c .before .before .before .before .before .before .before .before .before .before .before .before .before .before .clock-mixed .ensures in
-    (frames-played (start .args .self) (start .args .ram .now) (start .args .queues .now) (start .args .left .now) (start .args .right .now) _ _ _ _ _ (mixed .0) (mixed .1 .1 .0) (mixed .1 .1 .1) (c .before .before .peak .ensures) (c .peak2 .ensures), (mixed .1 .0, frames-printed (start .args .self) (start .args .ram .now) (start .args .queues .now) (start .args .left .now) (start .args .right .now) _ _ _ _ _ _ (mixed .1 .1 .0) (mixed .1 .1 .1) (c .before .before .before .before .before .before .put-frames .ensures)))
+    (frames-played (start .args .self) (start .args .ram .now) (start .args .queues .now) (start .args .left .now) (start .args .right .now) _ _ _ _ _ (mixed .0) (mixed .1 .1 .0) (mixed .1 .1 .1) (c .before .before .peak .ensures) (c .peak2 .ensures), (mixed .1 .0, (frames-printed (start .args .self) (start .args .ram .now) (start .args .queues .now) (start .args .left .now) (start .args .right .now) _ _ _ _ _ _ (mixed .1 .1 .0) (mixed .1 .1 .1) (c .before .before .before .before .before .before .put-frames .ensures .0), frames-short (start .args .self) (start .args .ram .now) (start .args .queues .now) (start .args .left .now) (start .args .right .now) _ _ _ (mixed .1 .1 .0) (mixed .1 .1 .1) (same-length-2 c) (c .before .before .before .before .before .before .put-frames .ensures .1))))
 
 pub clock-over-spec : {M : Type 1} → statement M
 clock-over-spec =

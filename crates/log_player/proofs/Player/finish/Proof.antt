@@ -19,7 +19,7 @@ same-length-2 : tie.Need-same-length-2
 same-length-2 c = search needs
 
 returns-2 : tie.Need-returns-2
-returns-2 c = rw (ne-eqb _ 0 (c .before .before .before .before .if1 .left)) (c .before .before .put-bad .ensures)
+returns-2 c = rw (ne-eqb _ 0 (c .before .before .before .before .if1 .left)) (c .before .before .put-bad .ensures .0)
 
 pub finish-spec : {M : Type 1} → statement M
 finish-spec =

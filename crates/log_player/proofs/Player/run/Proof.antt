@@ -6,7 +6,7 @@ use lib.ListN.{length, drop}
 use Rattle.log_player.specs.declared.Next.the-variants.{Line}
 use Rattle.log_player.specs.Worlds.{world}
 use Rattle.log_player.specs.Runs.{Runs}
-use Rattle.log_player.proofs.Running.{runs-none, runs-line, runs-stop, no-rest, Promised, steps-as}
+use Rattle.log_player.proofs.Running.{runs-none, runs-line, runs-stop, no-rest, no-line, room-there, room-over, Promised, steps-as}
 use Rattle.log_player.proofs.Player.run.Statement.{statement}
 use Rattle.log_player.proofs.Player.run.Tie as tie
 
@@ -47,21 +47,23 @@ returns c =
     let step = c .before .before .before .before .before .before .before .before .step .ensures in
     let loop = c .before .before .before .before .before .before .before .before .before .before .before .before .before .before .loop in
     let start = c .before .before .before .before .before .before .before .before .before .before .before .before .before .before .before .before .before .before in
+    let room = room-there _ _ _ _ (c .before .before .before .before .before .before .before .before .before .before .before .before .before .has-room .ensures .0) (c .before .before .before .before .before .before .before .before .before .before .before .before .if1 .taken) in
     subst (Promised (world (c .before .before .before .before .before .before .before .before .before .before .before .before .before .before .before .before .before .before .args .self) (c .before .before .before .before .before .before .before .before .before .before .before .before .before .before .before .before .before .before .args .ram .now) (c .before .before .before .before .before .before .before .before .before .before .before .before .before .before .before .before .before .before .args .queues .now)) (start .args .number) (drop (start .args .from) (start .args .input .now)) (start .args .input .now) _ _ (start .args .out .now) _) (sym (c .ran .ensures))
-    (runs-stop _ _ _ _ _ _ _ _ (start .args .input .now) _ _ _ _ _ _ _ (c .before .match .keys2) (loop .inv .3) (sym (step .0)) (steps-as _ _ _ _ _ _ _ _ _ _ _ _ _ refl step), λ e. sym (step .0) ∙ e)
+    (runs-stop _ _ _ _ _ _ _ _ (start .args .input .now) _ _ _ _ _ _ room _ (c .before .match .keys2) (loop .inv .3) (sym (step .0)) (steps-as _ _ _ _ _ _ _ _ _ _ _ _ _ refl step), ((λ e. sym (step .0) ∙ e), λ place e. no-line _ place (c .before .match .keys2) e))
 
 add-line : tie.Need-add-line Inv-loop μ-loop
-add-line c = omega (arith, c .before .before .before .before .before .before .before .before .before .before .before .before .before .before .has-room .ensures (c .before .before .before .before .before .before .before .before .before .before .before .before .before .if1 .taken))
+add-line c = omega (arith, c .before .before .before .before .before .before .before .before .before .before .before .before .before .before .has-room .ensures .1 (c .before .before .before .before .before .before .before .before .before .before .before .before .before .if1 .taken))
 
 loop-less : tie.Need-loop-less Inv-loop μ-loop
-loop-less c = omega (arith, c .before .before .before .before .before .before .before .before .before .before .before .before .before .before .has-room .ensures (c .before .before .before .before .before .before .before .before .before .before .before .before .before .if1 .taken))
+loop-less c = omega (arith, c .before .before .before .before .before .before .before .before .before .before .before .before .before .before .has-room .ensures .1 (c .before .before .before .before .before .before .before .before .before .before .before .before .before .if1 .taken))
 
 loop-again : tie.Need-loop-again Inv-loop μ-loop
 loop-again c =
     let step = c .before .before .before .before .before .before .before .before .before .step .ensures in
     let kept = c .before .before .before .before .before .before .before .before .before .step .kept in
     let inv = c .before .before .before .before .before .before .before .before .before .before .before .before .before .before .before .loop .inv in
-    (kept .1 .1 .1 .1 .0 ∙ inv .0, kept .1 .1 .1 .1 .1 .0 ∙ inv .1, kept .1 .1 .1 .1 .1 .1 .0 ∙ inv .2, runs-line _ _ _ _ _ _ _ _ (c .before .before .before .before .before .before .before .before .before .before .before .before .before .before .before .before .before .before .before .args .input .now) _ _ _ _ _ _ _ (inv .3) (sym (step .0) ∙ c .before .next .given .1) (steps-as _ _ _ _ _ _ _ _ _ _ _ _ _ (c .before .next .given .1) step))
+    let room = room-there _ _ _ _ (c .before .before .before .before .before .before .before .before .before .before .before .before .before .before .has-room .ensures .0) (c .before .before .before .before .before .before .before .before .before .before .before .before .before .if1 .taken) in
+    (kept .1 .1 .1 .1 .0 ∙ inv .0, kept .1 .1 .1 .1 .1 .0 ∙ inv .1, kept .1 .1 .1 .1 .1 .1 .0 ∙ inv .2, runs-line _ _ _ _ _ _ _ _ (c .before .before .before .before .before .before .before .before .before .before .before .before .before .before .before .before .before .before .before .args .input .now) _ _ _ _ _ _ room _ (inv .3) (sym (step .0) ∙ c .before .next .given .1) (steps-as _ _ _ _ _ _ _ _ _ _ _ _ _ (c .before .next .given .1) step))
 
 ran-requires-2 : tie.Need-ran-requires-2 Inv-loop μ-loop
 ran-requires-2 c κs = search needs
@@ -78,7 +80,7 @@ same-length-6 c = search needs
 returns-2 : tie.Need-returns-2 Inv-loop μ-loop
 returns-2 c =
     let start = c .before .before .before .before .before .before .before in
-    subst (Promised (world (c .before .before .before .before .before .before .before .args .self) (c .before .before .before .before .before .before .before .args .ram .now) (c .before .before .before .before .before .before .before .args .queues .now)) (start .args .number) (drop (start .args .from) (start .args .input .now)) (start .args .input .now) _ _ (start .args .out .now) _) (sym (c .ran2 .ensures)) (c .before .before .before .loop .inv .3, λ e. no-rest _ e)
+    subst (Promised (world (c .before .before .before .before .before .before .before .args .self) (c .before .before .before .before .before .before .before .args .ram .now) (c .before .before .before .before .before .before .before .args .queues .now)) (start .args .number) (drop (start .args .from) (start .args .input .now)) (start .args .input .now) _ _ (start .args .out .now) _) (sym (c .ran2 .ensures)) (c .before .before .before .loop .inv .3, ((λ e. no-rest _ e), λ place e. room-over _ _ _ _ _ (c .before .before .has-room .ensures .0) (c .before .if1 .left) (c .before .before .before .loop .inv .2)))
 
 pub run-spec : {M : Type 1} → statement M
 run-spec =

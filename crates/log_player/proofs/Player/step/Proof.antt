@@ -25,7 +25,7 @@ parsed c = c .parse .ensures ∙ ap lineOf (line-part (c .before .before .before
 returns : tie.Need-returns
 returns c =
     step-is (world (c .before .before .before .before .before .before .args .self) (c .before .before .before .before .before .before .args .ram .now) (c .before .before .before .before .before .before .args .queues .now)) _ _ _ _ _ _ _ _ _ _ _ _ (next-past (c .before .before .before .before .before .before .args .input .now) (c .before .before .before .before .before .before .args .from) (c .before .if1 .taken))
-    (c .stepped .ensures .1 .0, (c .stepped .ensures .0, (refl, (refl, put-none _ _ _ (c .stepped .ensures .1 .1 ∙ c .before .before .least .ensures)))))
+    (c .stepped .ensures .1 .0, (c .stepped .ensures .0, (refl, (refl, (put-none _ _ _ (c .stepped .ensures .1 .1 ∙ c .before .before .least .ensures), omega arith)))))
 
 line-end-requires : tie.Need-line-end-requires
 line-end-requires c κs = search needs
@@ -39,7 +39,7 @@ stepped-requires-2 c κs = search needs
 returns-2 : tie.Need-returns-2
 returns-2 c =
     step-is (world (c .before .before .before .before .before .before .before .before .before .args .self) (c .before .before .before .before .before .before .before .before .before .args .ram .now) (c .before .before .before .before .before .before .before .before .before .args .queues .now)) _ _ _ _ _ _ _ _ _ _ _ _ (next-rest (c .before .before .before .before .before .before .before .before .before .args .input .now) (c .before .before .before .before .before .before .before .before .before .args .from) _ (c .before .before .before .line-end .ensures) (c .before .before .before .before .if1 .left) (c .before .before .if2 .taken) (c .before .if3 .taken))
-    (c .stepped2 .ensures .1 .0, (c .stepped2 .ensures .0, (refl, (refl, put-none _ _ _ (c .stepped2 .ensures .1 .1 ∙ c .before .before .before .before .before .least .ensures)))))
+    (c .stepped2 .ensures .1 .0, (c .stepped2 .ensures .0, (refl, (refl, (put-none _ _ _ (c .stepped2 .ensures .1 .1 ∙ c .before .before .before .before .before .least .ensures), omega arith)))))
 
 put-bad-requires : tie.Need-put-bad-requires
 put-bad-requires c κs = search needs
@@ -53,7 +53,7 @@ same-length c = search needs
 returns-3 : tie.Need-returns-3
 returns-3 c =
     step-is (world (c .before .before .before .before .before .before .before .before .before .before .before .before .before .args .self) (c .before .before .before .before .before .before .before .before .before .before .before .before .before .args .ram .now) (c .before .before .before .before .before .before .before .before .before .before .before .before .before .args .queues .now)) _ _ _ _ _ _ _ _ _ _ _ _ (next-long (c .before .before .before .before .before .before .before .before .before .before .before .before .before .args .input .now) (c .before .before .before .before .before .before .before .before .before .before .before .before .before .args .from) _ (c .before .before .before .before .before .before .before .line-end .ensures) (c .before .before .before .before .before .before .before .before .if1 .left) (c .before .before .before .before .before .before .if2 .taken) (c .before .before .before .before .before .if3 .left))
-    (c .stepped3 .ensures .1 .0, (c .stepped3 .ensures .0, (refl, (refl, rw (c .stepped3 .ensures .1 .1) (c .before .before .before .put-bad .ensures)))))
+    (c .stepped3 .ensures .1 .0, (c .stepped3 .ensures .0, (refl, (refl, rw (c .stepped3 .ensures .1 .1) (c .before .before .before .put-bad .ensures .0, omega (arith, c .before .before .before .put-bad .ensures .1))))))
 
 sub-parse : tie.Need-sub-parse
 sub-parse c = search needs
@@ -83,7 +83,7 @@ returns-4 : tie.Need-returns-4
 returns-4 c =
     step-is (world (c .before .before .before .before .before .before .before .before .before .before .before .before .before .before .before .before .args .self) (c .before .before .before .before .before .before .before .before .before .before .before .before .before .before .before .before .args .ram .now) (c .before .before .before .before .before .before .before .before .before .before .before .before .before .before .before .before .args .queues .now)) _ _ _ _ _ _ _ _ _ _ _ _
     (next-bad (c .before .before .before .before .before .before .before .before .before .before .before .before .before .before .before .before .args .input .now) (c .before .before .before .before .before .before .before .before .before .before .before .before .before .before .before .before .args .from) _ (c .before .before .before .before .before .before .before .before .before .before .line-end .ensures) _ (c .before .before .before .before .before .before .before .before .before .before .before .if1 .left) (c .before .before .before .before .before .before .before .before .before .if2 .left) (parsed (c .before .before .before .before .before .before .before)) (ap malformed (c .before .before .before .before .before .enum-told .given .1)))
-    (c .stepped4 .ensures .1 .0, (c .stepped4 .ensures .0, (refl, (refl, rw (c .stepped4 .ensures .1 .1) (c .before .before .before .put-bad2 .ensures)))))
+    (c .stepped4 .ensures .1 .0, (c .stepped4 .ensures .0, (refl, (refl, rw (c .stepped4 .ensures .1 .1) (c .before .before .before .put-bad2 .ensures .0, omega (arith, c .before .before .before .put-bad2 .ensures .1))))))
 
 apply-requires : tie.Need-apply-requires
 apply-requires c κs = search needs
