@@ -1,7 +1,9 @@
 -- Bounds of the tables' entries, each by one computed test over its table. Assumes nothing.
+use mathlib.Core.Path.{_≡_, refl}
 use mathlib.Core.Bool.{Bool, true, false, cond}
 use mathlib.Core.List.{List, [], _∷_}
-use Prim.Native.Nat.{ℕ, _%_, _^_, _<_, _≤_, min}
+use Prim.Native.Nat.{ℕ, zero, suc, _+_, _*_, _/_, _%_, _^_, _<_, _≤_, min}
+use native.Mathlib.Omega.{arith}
 use lib.Dec.{T, ltb, leb, eqb, ltb→lt, leb→le}
 use lib.ListN.{getD}
 use lib.IntN.{ℤ, pos, natAbs}
@@ -26,6 +28,27 @@ level-le version L i = level (1 ∷ 3 ∷ 5 ∷ 7 ∷ []) tt i
 level-le version LPlus i =
     cond-by (λ (l : List ℕ). getD l i 0 ≤ 14) (eqb version 1) (10 ∷ 11 ∷ 12 ∷ 14 ∷ []) (1 ∷ 2 ∷ 3 ∷ 14 ∷ [])
     (λ e. level (10 ∷ 11 ∷ 12 ∷ 14 ∷ []) tt i) (λ e. level (1 ∷ 2 ∷ 3 ∷ 14 ∷ []) tt i)
+
+four : (P : ℕ → Type 0) → P 0 → P 1 → P 2 → P 3 → (i : ℕ) → i < 4 → P i
+four P a b c d zero h = a
+four P a b c d (suc zero) h = b
+four P a b c d (suc (suc zero)) h = c
+four P a b c d (suc (suc (suc zero))) h = d
+four P a b c d (suc (suc (suc (suc n)))) h = absurd (omega arith)
+
+-- the levels and the index's moves, computed
+pub level-l : (i : ℕ) → i < 4 → 2 * i + 1 ≡ getD (1 ∷ 3 ∷ 5 ∷ 7 ∷ []) i 0
+level-l = four (λ i. 2 * i + 1 ≡ getD (1 ∷ 3 ∷ 5 ∷ 7 ∷ []) i 0) refl refl refl refl
+
+pub level-first : (i : ℕ) → i < 4 → i + (i + 1) / 4 + 10 ≡ getD (10 ∷ 11 ∷ 12 ∷ 14 ∷ []) i 0
+level-first = four (λ i. i + (i + 1) / 4 + 10 ≡ getD (10 ∷ 11 ∷ 12 ∷ 14 ∷ []) i 0) refl refl refl refl
+
+pub level-plus : (i : ℕ) → i < 4 → i + (i + 1) / 4 * 10 + 1 ≡ getD (1 ∷ 2 ∷ 3 ∷ 14 ∷ []) i 0
+level-plus = four (λ i. i + (i + 1) / 4 * 10 + 1 ≡ getD (1 ∷ 2 ∷ 3 ∷ 14 ∷ []) i 0) refl refl refl refl
+
+pub level-moves : (i : ℕ) → i < 4 → 0 < i → pos (2 * i) ≡ getD levelIndexes i (pos 0)
+unfolding levelIndexes
+level-moves = four (λ i. 0 < i → pos (2 * i) ≡ getD levelIndexes i (pos 0)) (λ h. absurd (omega arith)) (λ h. refl) (λ h. refl) (λ h. refl)
 
 small : (table : List ℤ) → T (allOf (λ z. leb (natAbs z) 8) table) → (i : ℕ) → natAbs (getD table i (pos 0)) ≤ 8
 small table t i = leb→le (natAbs (getD table i (pos 0))) 8 (at-all (λ z. leb (natAbs z) 8) (pos 0) tt table t i)

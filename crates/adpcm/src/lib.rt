@@ -5,7 +5,7 @@ ghost use lib.Dec.{eqb};
 ghost use lib.IntN.{ℤ, pos, natAbs};
 ghost use lib.ListN.{getD};
 ghost use Rattle.adpcm.specs.Ima.{stepSize, difference as imaDifference, indexAfter};
-ghost use Rattle.adpcm.specs.Codes.{variantOf, bitsOf, payloadBytes, fragmentSize, legacyFragmentSize, levelsOf, levelDifference, deltaOf, adjustOf, updateOf, decodeCode, volumeOf, legacyVolumeOf, codeAt};
+ghost use Rattle.adpcm.specs.Codes.{variantOf, bitsOf, payloadBytes, fragmentSize, legacyFragmentSize, levelsOf, levelIndexes, levelDifference, deltaOf, adjustOf, updateOf, decodeCode, volumeOf, legacyVolumeOf, codeAt};
 
 pub enum Variant {
     H,
@@ -118,14 +118,6 @@ const STEPS: [u16; 89] = [
 
 const H_INDEX_ADJUST: [i32; 16] = [-1, -1, -1, -1, 2, 4, 6, 8, -1, -1, -1, -1, 2, 4, 6, 8];
 
-const L_INDEX_ADJUST: [i32; 4] = [-1, 2, 4, 6];
-
-const LEGACY_L_PLUS_LEVELS: [u32; 4] = [10, 11, 12, 14];
-
-const L_PLUS_LEVELS: [u32; 4] = [1, 2, 3, 14];
-
-const L_LEVELS: [u32; 4] = [1, 3, 5, 7];
-
 impl Variant {
     pub fn try_from(value: u8) -> VariantByte
         ensures { λ r. ⌜ r ≡ variantOf value ⌝ }
@@ -213,18 +205,20 @@ fn difference(step: u32, code: u8) -> u16
     d as u16
 }
 
+// Computed, not read from tables: a constant table is written out at each use.
 fn level_at(version: u8, variant: Variant, at: usize) -> u32
     requires { ⌜ at < 4 ⌝ }
     ensures { λ r. ⌜ (r ≡ getD (levelsOf version variant) at 0) × (r ≤ 14) ⌝ }
 {
+    let n = at as u32;
     match variant {
         Variant::H => 0,
-        Variant::L => L_LEVELS[at],
+        Variant::L => 2 * n + 1,
         Variant::LPlus => {
             if version == 1 {
-                LEGACY_L_PLUS_LEVELS[at]
+                n + (n + 1) / 4 + 10
             } else {
-                L_PLUS_LEVELS[at]
+                n + (n + 1) / 4 * 10 + 1
             }
         }
     }
@@ -257,16 +251,27 @@ pub fn delta(version: u8, variant: Variant, state: State, code: u8) -> i32
     }
 }
 
+// L and L+: one step back for the lowest level, else on by two a level.
+fn level_adjust(level: u8) -> i32
+    requires { ⌜ level < 4 ⌝ }
+    ensures { λ r. ⌜ r ≡ getD levelIndexes level (pos 0) ⌝ }
+{
+    if level == 0 {
+        return -1;
+    }
+    (2 * level) as i32
+}
+
 // How far a code moves the step index.
 fn adjust(variant: Variant, code: u8) -> i32
     ensures { λ r. ⌜ (r ≡ adjustOf variant code) × (natAbs r ≤ 8) ⌝ }
 {
     let four = (code % 16) as usize;
-    let two = (code % 4) as usize;
+    let two = code % 4;
     match variant {
         Variant::H => H_INDEX_ADJUST[four],
-        Variant::L => L_INDEX_ADJUST[two],
-        Variant::LPlus => L_INDEX_ADJUST[two],
+        Variant::L => level_adjust(two),
+        Variant::LPlus => level_adjust(two),
     }
 }
 

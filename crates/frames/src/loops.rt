@@ -24,7 +24,8 @@ fn put_sides(stems: &mut [i16], k: usize, sides: Sides)
     stems[2 * k + 1] = sides.right as i16;
 }
 
-// A stream's cache is stored only where its ticks may have changed it.
+// A stream's cache is stored only where its ticks may have changed it. Where not every tick was served the voice is read anew:
+// ticks that are served then read no more of it than they use.
 fn turns(core: Core, of: Round, n: usize, ram: &[u8], queues: &[i16], stems: &mut [i16]) -> Turned
     requires { ⌜ (1 ≤ n) × (n ≤ 4) ⌝ ∗ ⌜ length (now queues) ≡ 16384 ⌝ ∗ ⌜ acceptsCore core (of .version) (length (now ram)) ≡ true ⌝ }
     ensures { λ r. ⌜ r ≡ afterTurns (turned (of .version) (now (ram .entry)) (now (queues .entry)) (of .first) n (length (now (stems .entry)) / 2) core) ⌝ }
@@ -52,8 +53,9 @@ fn turns(core: Core, of: Round, n: usize, ram: &[u8], queues: &[i16], stems: &mu
                     core.channels[ch] = c.after_served(r);
                     sides = r.sides;
                 } else {
-                    let v = of.stream(c, n, &mut core.fragments, ram, ch, r);
-                    core.channels[ch] = c.after_stream(v);
+                    let d = core.channels[ch];
+                    let v = of.stream(d, n, &mut core.fragments, ram, ch, r);
+                    core.channels[ch] = d.after_stream(v);
                     sides = v.sides;
                 }
             }

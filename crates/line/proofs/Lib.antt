@@ -5,3 +5,4 @@ pub mod Bounds
 pub mod Good
 pub mod Trip
 pub mod Size
+mod Examples

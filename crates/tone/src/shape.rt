@@ -1,6 +1,6 @@
 // What modulation makes of an unsigned Q8.8 value: ring, window, slews; then the value about its centre.
 ghost use mathlib.Core.Path.{_≡_};
-ghost use Prim.Native.Nat.{_≤_};
+ghost use Prim.Native.Nat.{_≤_, max};
 ghost use lib.IntN.{pos};
 ghost use Rattle.num.specs.Integers.{up, clamp};
 ghost use Rattle.tone.specs.Shape.{slewRate, slewStep};
@@ -43,17 +43,21 @@ pub fn window(q8: u16, modulator: i16) -> u16
     if modulator < 0 { 32768 } else { q8 }
 }
 
-// The slew register moves toward a value, by at most a step.
+fn most(a: usize, b: usize) -> usize
+    ensures { λ r. ⌜ r ≡ max a b ⌝ }
+{
+    if a < b { b } else { a }
+}
+
+// The slew register moves toward a value, by at most a step: the value, kept between a step down and a step up.
 pub fn slew_rate(current: u16, q8: u16, step: u16) -> u16
     ensures { λ r. ⌜ r ≡ slewRate current q8 step ⌝ }
     ensures { λ r. ⌜ r ≤ 65280 ⌝ }
 {
     let now = current as usize;
-    let aim = q8 as usize;
-    if now < aim {
-        return num::least(now + num::least(aim - now, step as usize), 65280) as u16;
-    }
-    num::least(now - num::least(now - aim, step as usize), 65280) as u16
+    let by = step as usize;
+    let near = most(q8 as usize, now - num::least(now, by));
+    num::least(num::least(near, now + by), 65280) as u16
 }
 
 // It moves by a whole step: down where the value is met.

@@ -6,3 +6,4 @@ pub mod Inside
 pub mod Session
 pub mod Size
 pub mod Taken
+mod Examples

@@ -96,8 +96,8 @@ oscillator-requires c κs = search needs
 after-sound-requires : tie.Need-after-sound-requires Inv-loop μ-loop
 after-sound-requires c κs = search needs
 
-mul-t29 : tie.Need-mul-t29 Inv-loop μ-loop
-mul-t29 c = record { fits = omega (arith, c .before .before .before .before .before .before .before .before .before .before .before .before .channel .ensures .1) }
+mul-t30 : tie.Need-mul-t30 Inv-loop μ-loop
+mul-t30 c = record { fits = omega (arith, c .before .before .before .before .before .before .before .before .before .before .before .before .channel .ensures .1) }
 
 element-set-from-core : tie.Need-element-set-from-core Inv-loop μ-loop
 element-set-from-core c = c .before .before .before .before .before .before .before .before .before .before .before .before .channel .ensures .1
@@ -117,23 +117,29 @@ served-requires c κs = search needs
 after-served-requires : tie.Need-after-served-requires Inv-loop μ-loop
 after-served-requires c κs = search needs
 
-mul-t45 : tie.Need-mul-t45 Inv-loop μ-loop
-mul-t45 c = record { fits = omega (arith, c .before .before .before .before .before .before .before .before .before .before .before .channel .ensures .1) }
+mul-t46 : tie.Need-mul-t46 Inv-loop μ-loop
+mul-t46 c = record { fits = omega (arith, c .before .before .before .before .before .before .before .before .before .before .before .channel .ensures .1) }
 
 element-set-from-core-2 : tie.Need-element-set-from-core-2 Inv-loop μ-loop
 element-set-from-core-2 c = c .before .before .before .before .before .before .before .before .before .before .before .channel .ensures .1
 
+mul-d : tie.Need-mul-d Inv-loop μ-loop
+mul-d c = record { fits = omega (arith, c .before .before .before .before .before .before .before .before .before .before .channel .ensures .1) }
+
+element-copy-out-d : tie.Need-element-copy-out-d Inv-loop μ-loop
+element-copy-out-d c = c .before .before .before .before .before .before .before .before .before .before .channel .ensures .1
+
 stream-requires : tie.Need-stream-requires Inv-loop μ-loop
-stream-requires c κs = (c .before .before .before .before .before .before .before .before .before .before .before .channel .ensures .1, served-most (c .before .before .before .before .before .before .before .before .before .before .before .before .before .before .before .before .args .of .version) (c .before .before .before .before .before .before .before .before .before .before .before .before .before .before .before .before .args .ram .now) (c .before .before .before .before .before .before .before .before .before .before .before .before .before .before .before .before .args .queues .now) (c .before .before .before .before .before .before .before .before .before .before .before .channel .result) (c .before .before .before .before .before .before .before .before .before .before .before .before .before .before .before .before .args .n) (c .before .before .before .before .before .before .before .before .before .before .before .before .before .loop .core) (c .before .before .before .before .before .before .before .before .before .before .before .before .before .before .before .before .pre .0 .0) (c .before .before .before .before .before .before .before .before .before .before .before .before .before .before .before .before .pre .0 .1) (c .before .before .before .before .before .before .before .before .before .before .before .channel .ensures .1) (c .before .before .before .before .before .before .before .before .before .before .before .before .before .loop .inv .0 .ready) (sym (c .before .before .before .before .before .before .before .before .before .kind .ensures) ∙ c .before .before .before .before .before .before .before .enum-told3 .given .1) (c .before .before .before .served .ensures .1) (c .before .before .before .served .result) (c .before .before .before .served .ensures .0))
+stream-requires c κs = (c .before .before .before .before .before .before .before .before .before .before .before .before .channel .ensures .1, served-most (c .before .before .before .before .before .before .before .before .before .before .before .before .before .before .before .before .before .args .of .version) (c .before .before .before .before .before .before .before .before .before .before .before .before .before .before .before .before .before .args .ram .now) (c .before .before .before .before .before .before .before .before .before .before .before .before .before .before .before .before .before .args .queues .now) (c .before .before .before .before .before .before .before .before .before .before .before .before .channel .result) (c .before .before .before .before .before .before .before .before .before .before .before .before .before .before .before .before .before .args .n) (c .before .before .before .before .before .before .before .before .before .before .before .before .before .before .loop .core) (c .before .before .before .before .before .before .before .before .before .before .before .before .before .before .before .before .before .pre .0 .0) (c .before .before .before .before .before .before .before .before .before .before .before .before .before .before .before .before .before .pre .0 .1) (c .before .before .before .before .before .before .before .before .before .before .before .before .channel .ensures .1) (c .before .before .before .before .before .before .before .before .before .before .before .before .before .before .loop .inv .0 .ready) (sym (c .before .before .before .before .before .before .before .before .before .before .kind .ensures) ∙ c .before .before .before .before .before .before .before .before .enum-told3 .given .1) (c .before .before .before .before .served .ensures .1) (c .before .before .before .before .served .result) (c .before .before .before .before .served .ensures .0))
 
 after-stream-requires : tie.Need-after-stream-requires Inv-loop μ-loop
 after-stream-requires c κs = search needs
 
-mul-t50 : tie.Need-mul-t50 Inv-loop μ-loop
-mul-t50 c = record { fits = omega (arith, c .before .before .before .before .before .before .before .before .before .before .before .before .before .channel .ensures .1) }
+mul-t49 : tie.Need-mul-t49 Inv-loop μ-loop
+mul-t49 c = record { fits = omega (arith, c .before .before .before .before .before .before .before .before .before .before .before .before .before .before .channel .ensures .1) }
 
 element-set-from-core-3 : tie.Need-element-set-from-core-3 Inv-loop μ-loop
-element-set-from-core-3 c = c .before .before .before .before .before .before .before .before .before .before .before .before .before .channel .ensures .1
+element-set-from-core-3 c = c .before .before .before .before .before .before .before .before .before .before .before .before .before .before .channel .ensures .1
 
 enum-told-4 : tie.Need-enum-told-4 Inv-loop μ-loop
 enum-told-4 c = search needs
@@ -150,8 +156,8 @@ queue-requires c κs = search needs
 after-queue-requires : tie.Need-after-queue-requires Inv-loop μ-loop
 after-queue-requires c κs = search needs
 
-mul-t53 : tie.Need-mul-t53 Inv-loop μ-loop
-mul-t53 c = search needs
+mul-t56 : tie.Need-mul-t56 Inv-loop μ-loop
+mul-t56 c = search needs
 
 element-set-from-core-4 : tie.Need-element-set-from-core-4 Inv-loop μ-loop
 element-set-from-core-4 c = search needs
@@ -181,7 +187,7 @@ came c =
     (⊎-elim
     (λ w. turn-by (w .10) (w .11) (served-turn (a .of .version) (a .ram .now) (a .queues .now) ch (a .n) (l .core) low high there ready (is ∙ w .1 .given .1) (w .5 .ensures .1) (w .5 .result) (w .5 .ensures .0) (w .8 .result) (w .7 .taken) (w .8 .ensures)))
     (⊎-elim
-    (λ w. turn-by (w .12) (w .13) (stream-turn (a .of .version) (a .ram .now) (a .queues .now) ch (a .n) (l .core) low high there ready (is ∙ w .1 .given .1) (w .5 .ensures .1) (w .5 .result) (w .5 .ensures .0) (w .9 .result) _ (w .10 .result) (w .9 .ensures) (w .10 .ensures)))
+    (λ w. turn-by (w .13) (w .14) (stream-turn (a .of .version) (a .ram .now) (a .queues .now) ch (a .n) (l .core) low high there ready (is ∙ w .1 .given .1) (w .5 .ensures .1) (w .5 .result) (w .5 .ensures .0) (w .10 .result) _ (w .11 .result) (w .10 .ensures) (w .11 .ensures)))
     (λ w. turn-by (w .6) (w .7) (queue-turn (a .of .version) (a .ram .now) (a .queues .now) ch (a .n) (l .core) low high there ready (is ∙ w .1 .given .1) (w .3 .result) (w .4 .result) (w .3 .ensures .0) (w .3 .ensures .1) (w .4 .ensures))))))
     (c .match .came)
 
@@ -237,25 +243,27 @@ turns-spec =
     target-requires
     oscillator-requires
     after-sound-requires
-    mul-t29
+    mul-t30
     element-set-from-core
     enum-told-3
     mul-c-2
     element-copy-out-c-2
     served-requires
     after-served-requires
-    mul-t45
+    mul-t46
     element-set-from-core-2
+    mul-d
+    element-copy-out-d
     stream-requires
     after-stream-requires
-    mul-t50
+    mul-t49
     element-set-from-core-3
     enum-told-4
     mul-c-3
     element-copy-out-c-3
     queue-requires
     after-queue-requires
-    mul-t53
+    mul-t56
     element-set-from-core-4
     put-sides-requires
     add-k
