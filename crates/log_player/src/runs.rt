@@ -29,10 +29,12 @@ fn has_room(length: usize, end: usize, number: u64) -> bool
     ROOM <= length - end
 }
 
-// Moves the bytes from `from` to before `to` to the front, as far as there are any, and answers how many there are.
+// Moves the bytes from `from` to before `to` to the front, as far as there are any, and answers how many there are. The bytes
+// behind them stay.
 pub fn keep(input: &mut [u8], from: usize, to: usize) -> usize
     ensures { λ r. ⌜ r ≡ length (part (now (input .entry)) from (to - from)) ⌝ }
     ensures { λ r. ⌜ take r (now (input .exit)) ≡ part (now (input .entry)) from (to - from) ⌝ }
+    ensures { λ r. ⌜ drop r (now (input .exit)) ≡ drop r (now (input .entry)) ⌝ }
 {
     let end = num::least(to, input.len());
     let start = num::least(from, end);

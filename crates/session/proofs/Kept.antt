@@ -3,12 +3,14 @@ use mathlib.Core.Path.{_≡_, refl}
 use mathlib.Core.Bool.{true}
 use mathlib.Core.List.{List}
 use Prim.Native.Nat.{ℕ}
+use native.Mathlib.Omega.{arith}
 use lib.IntN.{ℤ}
 use Rattle.num.proofs.Choice.{cond-by}
 use Rattle.voice_line.specs.Head.{readHead}
 use Rattle.voice_line.specs.Lines.{Voice, ReadVoice, voice, malformed, readVoice}
 use Rattle.voice_line.specs.declared.HeadLine.{HeadLine}
 use Rattle.voice_line.specs.declared.HeadLine.the-variants as head
+use Rattle.voice_line.proofs.Taken.{Told, read-told}
 use Rattle.voices.specs.Accepted.{SizedCore}
 use Rattle.voices.proofs.Accepting.{accepted-core, core-accepted, one-kept}
 use Rattle.s3w2.specs.Refusals.{acceptsChip}
@@ -19,7 +21,6 @@ use Rattle.session.specs.declared.LineAnswer.the-variants.{QueueBuffer, 
 use Rattle.session.specs.Answers.{answered, stateAccepted, queuesLent, withState}
 use Rattle.session.specs.Heads.{headCalled, readHeadCalled}
 use Rattle.session.specs.Voices.{loadedCore, loadedChip, voiceCalled, readVoiceCalled}
-use Rattle.session.proofs.Told.{Read, read}
 use Rattle.session.proofs.Loaded.{loaded-changed}
 
 -- n is the length of the RAM that the chip is played over
@@ -35,12 +36,12 @@ module _ (chip : Chip) (n : ℕ) (ok : acceptsChip chip n ≡ true) (sized : Siz
   unfolding readHeadCalled
   read-head-kept text = cond-by fine (stateAccepted chip) (headCalled chip (readHead text)) (answered chip NotAccepted) (λ e. head-kept (readHead text)) (λ e. ok)
 
-  voice-kept : (v : Voice) → Read (chip .version) v → acceptsChip (loadedChip chip (v .number) (voice v)) n ≡ true
+  voice-kept : (v : Voice) → Told (chip .version) v → acceptsChip (loadedChip chip (v .number) (voice v)) n ≡ true
   voice-kept v r =
       core-accepted (loadedCore (chip .core) (v .number) (voice v)) (chip .version) n
-      (one-kept (chip .core) (chip .version) n (accepted-core (chip .core) (chip .version) n sized ok) (loaded-changed (voice v) (v .number) (r .named) (chip .core) sized) (r .accepted n))
+      (one-kept (chip .core) (chip .version) n (accepted-core (chip .core) (chip .version) n sized ok) (loaded-changed (voice v) (v .number) (omega (arith, r .eight)) (chip .core) sized) (r .accepted n))
 
-  line-kept : (r : ReadVoice) → ((v : Voice) → r ≡ voice v → Read (chip .version) v) → acceptsChip (voiceCalled chip r .chip) n ≡ true
+  line-kept : (r : ReadVoice) → ((v : Voice) → r ≡ voice v → Told (chip .version) v) → acceptsChip (voiceCalled chip r .chip) n ≡ true
   line-kept (voice v) f = voice-kept v (f v refl)
   line-kept (malformed field) f = ok
 
@@ -49,5 +50,5 @@ module _ (chip : Chip) (n : ℕ) (ok : acceptsChip chip n ≡ true) (sized : Siz
   read-voice-kept queues text =
       let r = readVoice (chip .version) text in
       cond-by fine (queuesLent queues) (withState chip (voiceCalled chip r) (answered chip NotAccepted)) (answered chip QueueBuffer)
-      (λ e. cond-by fine (stateAccepted chip) (voiceCalled chip r) (answered chip NotAccepted) (λ e. line-kept r (read (chip .version) text)) (λ e. ok))
+      (λ e. cond-by fine (stateAccepted chip) (voiceCalled chip r) (answered chip NotAccepted) (λ e. line-kept r (read-told (chip .version) text)) (λ e. ok))
       (λ e. ok)

@@ -21,6 +21,7 @@ use Rattle.version.specs.Versions.{has3ws8pna}
 use Rattle.version.specs.declared.SguVersion.{SguVersion}
 use Rattle.ticks.specs.Oscillators.{acceptsOscillator}
 use Rattle.ticks.proofs.Ranges.{accepted-oscillator}
+use Rattle.stream.specs.Cache.{emptied}
 use Rattle.voice.specs.Accepted.{AcceptedChannel, acceptsStream}
 use Rattle.voice_line.specs.Numbers.{at, entries, byteOf, channelOf, tableOf, samplesOf}
 use Rattle.voice_line.specs.Lines.{Voice, voice, voiceOf, voiceFrom, readVoice}
@@ -99,15 +100,19 @@ taken-whole version ns g =
       table = size-read-table (at ns);
     }
 
--- ---- what a line's reading gives: one of the eight voices, whole, and as many samples as its queue counts
+-- ---- what a line's reading gives: one of the eight voices, whole, as many samples as its queue counts; accepted over any RAM, its cache empty and
+-- its queue's head at 0
 pub record Told (version : SguVersion) (v : Voice) : Type 0 where
   pub eight : v .number ≤ 7
   pub whole : Whole version (v .channel) (v .wavetable) (v .samples)
   pub many : length (v .samples) ≡ v .channel .fifo .count
+  pub accepted : (ram : ℕ) → AcceptedChannel (v .channel) version ram
+  pub cache : v .channel .stream ≡ emptied
+  pub first : v .channel .fifo .head ≡ 0
 
 numbers-told : (version : SguVersion) (ns : List ℕ) → Good (has3ws8pna version) ns → Told version (voiceOf (at ns))
 unfolding mostOf voiceOf channelOf
-numbers-told version ns g = record { eight = g .within 0; whole = taken-whole version ns g; many = size-samples (at ns) }
+numbers-told version ns g = record { eight = g .within 0; whole = taken-whole version ns g; many = size-samples (at ns); accepted = λ ram. taken-accepted version ns ram g; cache = refl; first = refl }
 
 pub read-told : (version : SguVersion) (text : List ℕ) (v : Voice) → readVoice version text ≡ voice v → Told version v
 unfolding readVoice

@@ -48,7 +48,7 @@ same-length c = c .before .loop .inv .1 .long
 returns : tie.Need-returns Inv-loop μ-loop
 returns c =
     let all : c .before .loop .i ≡ c .before .before .before .least .result - c .before .before .least2 .result = omega arith in
-    (count-is (c .before .before .before .before .before .args .input .now) (c .before .before .before .before .before .args .from) (c .before .before .before .before .before .args .to) _ _ _ (c .before .before .before .least .ensures) (c .before .before .least2 .ensures) refl, rw all at (c .before .loop .inv .1 .front) ∙ part-is (c .before .before .before .before .before .args .input .now) (c .before .before .before .before .before .args .from) (c .before .before .before .before .before .args .to) _ _ _ (c .before .before .before .least .ensures) (c .before .before .least2 .ensures) refl)
+    (count-is (c .before .before .before .before .before .args .input .now) (c .before .before .before .before .before .args .from) (c .before .before .before .before .before .args .to) _ _ _ (c .before .before .before .least .ensures) (c .before .before .least2 .ensures) refl, (rw all at (c .before .loop .inv .1 .front) ∙ part-is (c .before .before .before .before .before .args .input .now) (c .before .before .before .before .before .args .from) (c .before .before .before .before .before .args .to) _ _ _ (c .before .before .before .least .ensures) (c .before .before .least2 .ensures) refl, rw all at (c .before .loop .inv .1 .behind)))
 
 pub keep-spec : {M : Type 1} → statement M
 keep-spec =
