@@ -43,14 +43,14 @@ pub data Call : Type 0 where
   writeVoice : ℕ → List ℕ → Call
   readVoice : List ℕ → Call
 
--- a refusal has document 01's number and values
+-- a refusal has document 01's number, and then its values
 pub data Reply : Type 0 where
   done : Reply
   byte : ℕ → Reply
   count : ℕ → Reply
   flag : Bool → Reply
   sample : ℤ → Reply
-  refused : ℕ → List ℕ → Reply
+  refused : List ℕ → Reply
 
 -- the lent stems or sides and the lent text as the call left them, and the values ahead of the volume of its ticks
 pub record Answer : Type 0 where
@@ -69,7 +69,7 @@ plays r sides values = record { reply = r; sides = sides; text = []; values = va
 abbrev pub wrote : List ℕ → List ℕ → Answer
 wrote line out =
     cond (leb (length line) (length out)) (record { reply = count (length line); sides = []; text = sets out 0 line; values = [] })
-    (record { reply = refused 15 []; sides = []; text = out; values = [] })
+    (record { reply = refused (15 ∷ []); sides = []; text = out; values = [] })
 
 module _ {A : Type 0} (m : Model A) (t : Texts) where
   abbrev pub gives : Chip A → Answer → Ran (Chip A) Answer
@@ -83,16 +83,16 @@ module _ {A : Type 0} (m : Model A) (t : Texts) where
 
   abbrev pub headTold : Chip A → HeadRead → Ran (Chip A) Answer
   headTold c (head version) = gives (chips.setVersion m version c) (replies done)
-  headTold c (HeadRead.faulty field) = gives c (replies (refused 16 (field ∷ [])))
+  headTold c (HeadRead.faulty field) = gives c (replies (refused (16 ∷ field ∷ [])))
 
   abbrev pub voiceTold : Chip A → VoiceRead → Ran (Chip A) Answer
   voiceTold c (voice ch fields) = gives (loadVoice m ch fields c) (replies done)
-  voiceTold c (VoiceRead.faulty field) = gives c (replies (refused 16 (field ∷ [])))
+  voiceTold c (VoiceRead.faulty field) = gives c (replies (refused (16 ∷ field ∷ [])))
 
   abbrev pub clocks : ℕ → List ℤ → Chip A → Ran (Chip A) Answer
   clocks n stems c =
       cond (eqb (length stems) (16 * n)) (gives (chips.afterClocked m n c) (plays done (chips.clocked m n c .stems ∷ []) (chips.clocked m n c .values)))
-      (gives c (plays (refused 14 []) (stems ∷ []) []))
+      (gives c (plays (refused (14 ∷ [])) (stems ∷ []) []))
 
   unfoldable pub run : Chip A → Call → Ran (Chip A) Answer
   run c reset = gives (chips.reset m c) (replies done)

@@ -1,7 +1,7 @@
 -- Each call on a session's line on a good world is the list's call. Assumes nothing.
 use mathlib.Core.Path.{_≡_, refl, sym, ap, _∙_, subst}
 use mathlib.Core.Bool.{Bool, true, false, cond}
-use mathlib.Core.List.{List, []}
+use mathlib.Core.List.{List, [], _∷_}
 use Prim.Native.Nat.{ℕ, _<_}
 use native.Mathlib.Omega.{arith}
 use native.Mathlib.Decide.{decLt}
@@ -84,7 +84,7 @@ module _ (chip : Chip) (ram : List ℕ) (queues : List ℤ) (held : Held chip ra
   writes text out = go (leb (length text) (length out))
     where
       go : (b : Bool) → Tied (wroteBy chip ram queues (answers.wrote (cond b (lines.Length (length text)) lines.TextBuffer)) (cond b (sets out 0 text) out))
-          (list.gives slots session w (cond b (record { reply = list.count (length text); sides = []; text = sets out 0 text; values = [] }) (record { reply = list.refused 15 []; sides = []; text = out; values = [] })))
+          (list.gives slots session w (cond b (record { reply = list.count (length text); sides = []; text = sets out 0 text; values = [] }) (record { reply = list.refused (15 ∷ []); sides = []; text = out; values = [] })))
       go true = record { next = refl; reply = refl; sides = refl; text = refl; held = held }
       go false = record { next = refl; reply = refl; sides = refl; text = refl; held = held }
 

@@ -103,7 +103,7 @@ module _ (t : Texts) (chip : Chip) (ram : List ℕ) (queues : List ℤ) (held : 
       e = frames-same version ram queues (held .good .bytes) (held .long) n k (held .sized) (held .good .voices)
 
       go : (b : Bool) → Tied (by (called (cond b Done StemBuffer) chip (answered (withCore chip (framing .core)) Done)) ram queues (unless (cond b Done StemBuffer) stems (framing .stems) ∷ []))
-          (cond b (list.gives slots t (chips.withVoices w (r .voices)) (list.plays list.done (r .stems ∷ []) (r .values))) (list.gives slots t w (list.plays (list.refused 14 []) (stems ∷ []) [])))
+          (cond b (list.gives slots t (chips.withVoices w (r .voices)) (list.plays list.done (r .stems ∷ []) (r .values))) (list.gives slots t w (list.plays (list.refused (14 ∷ [])) (stems ∷ []) [])))
       go true = made _ _ (voices-are (framing .core) (r .voices) (e .voices)) refl (ap (λ (l : List ℤ). l ∷ []) (e .stems)) refl (held .allowed) (e .sized) (held .long) (oks.ok-clocked slots-plain w (held .good) n)
       go false = made _ _ refl refl refl refl (held .allowed) (held .sized) (held .long) (held .good)
 

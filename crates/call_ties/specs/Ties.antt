@@ -14,6 +14,8 @@ use Rattle.s3w2.specs.declared.Chip.{Chip}
 use Rattle.s3w2.specs.declared.Called.{Called}
 use Rattle.s3w2.specs.declared.Answer.{Answer}
 use Rattle.s3w2.specs.declared.Answer.the-variants.{Done, Byte, Sample, Count, Flag, RamLength, QueueBuffer, NotAccepted, StemBuffer}
+use Rattle.s3w2.specs.Answers.{numberOf}
+use Rattle.session.specs.Answers.{numbersOf}
 use Rattle.session.specs.declared.LineAnswer.{LineAnswer}
 use Rattle.session.specs.declared.LineAnswer.the-variants as lines
 use Rattle.session.specs.declared.LineCalled.{LineCalled}
@@ -63,10 +65,10 @@ replyOf (Byte x) = byte x
 replyOf (Sample x) = sample x
 replyOf (Count x) = count x
 replyOf (Flag x) = flag x
-replyOf RamLength = refused 1 []
-replyOf QueueBuffer = refused 2 []
-replyOf NotAccepted = refused 3 []
-replyOf StemBuffer = refused 14 []
+replyOf RamLength = refused (numberOf RamLength)
+replyOf QueueBuffer = refused (numberOf QueueBuffer)
+replyOf NotAccepted = refused (numberOf NotAccepted)
+replyOf StemBuffer = refused (numberOf StemBuffer)
 
 -- a call without a text
 abbrev pub by : Called → List ℕ → List ℤ → List (List ℤ) → Ran Machine Heard
@@ -80,10 +82,10 @@ told chip ram queues answer = left chip ram queues (replyOf answer) [] []
 abbrev pub lineReply : LineAnswer → Reply
 lineReply lines.Done = done
 lineReply (lines.Written n) = count n
-lineReply lines.QueueBuffer = refused 2 []
-lineReply lines.NotAccepted = refused 3 []
-lineReply lines.TextBuffer = refused 15 []
-lineReply (lines.Malformed field) = refused 16 (field ∷ [])
+lineReply lines.QueueBuffer = refused (numbersOf lines.QueueBuffer)
+lineReply lines.NotAccepted = refused (numbersOf lines.NotAccepted)
+lineReply lines.TextBuffer = refused (numbersOf lines.TextBuffer)
+lineReply (lines.Malformed field) = refused (numbersOf (lines.Malformed field))
 
 -- one written to a lent text
 abbrev pub wroteBy : Chip → List ℕ → List ℤ → LineAnswer → List ℕ → Ran Machine Heard

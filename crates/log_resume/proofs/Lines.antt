@@ -62,7 +62,7 @@ byteIn list.done = 0
 byteIn (list.count x) = 0
 byteIn (list.flag x) = 0
 byteIn (list.sample x) = 0
-byteIn (list.refused n l) = 0
+byteIn (list.refused n) = 0
 
 byte-in : (x : Answer) → byteOf x ≡ byteIn (replyOf x)
 unfolding byteIn
