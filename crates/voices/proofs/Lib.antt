@@ -5,3 +5,4 @@ pub mod Loops
 pub mod Widths
 pub mod Voices
 pub mod Accepting
+pub mod Listed

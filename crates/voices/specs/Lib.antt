@@ -4,3 +4,4 @@ pub mod Writes
 pub mod Reads
 pub mod Accepted
 pub mod Own
+pub mod Lists

@@ -2,6 +2,7 @@
 mod accepted;
 mod addresses;
 mod fresh;
+mod lists;
 mod reads;
 mod stored;
 mod writes;

@@ -15,7 +15,7 @@ fn clear_part(samples: &mut [i16], ch: usize)
     stream::clear(&mut samples[from..to]);
 }
 
-fn clear_fragments(samples: &mut [i16; 1024], ch: usize)
+pub(crate) fn clear_fragments(samples: &mut [i16; 1024], ch: usize)
     requires { ⌜ ch < 8 ⌝ }
     ensures { λ _. ⌜ now (samples .exit) ≡ noFragments ch (now (samples .entry)) ⌝ }
 {

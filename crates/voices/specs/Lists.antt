@@ -1,0 +1,48 @@
+-- Writes of a list, one after the other.
+use mathlib.Core.Bool.{Bool, cond}
+use mathlib.Core.List.{List}
+use Prim.Native.Nat.{ℕ, zero, suc, _-_}
+use lib.Dec.{leb, ltb}
+use lib.IntN.{ℤ}
+use lib.ListN.{getD}
+use Rattle.version.specs.declared.SguVersion.{SguVersion}
+use Rattle.voice.specs.Writes.{emptiesCache, writeControl, writeControlEntries, writePcmReg}
+use Rattle.voice.specs.declared.Channel.{Channel}
+use Rattle.voices.specs.Addresses.{isControl}
+use Rattle.voices.specs.Writes.{writeRegister, writeRegisterQueues, afterRamWrite}
+use Rattle.voices.specs.declared.Core.{Core}
+
+-- ---- a write at a block's offset: its channel, its own entries of the queue buffer, whether the cache is emptied
+
+unfoldable pub blockChannel : SguVersion → Channel → ℕ → ℕ → Channel
+blockChannel version c offset value = cond (isControl offset) (writeControl version c offset value) (writePcmReg c (offset - 16) value)
+
+unfoldable pub blockEntries : SguVersion → Channel → List ℤ → ℕ → ℕ → List ℤ
+blockEntries version c q offset value = cond (isControl offset) (writeControlEntries version c q offset value) q
+
+unfoldable pub blockEmpties : ℕ → Bool
+blockEmpties offset = cond (isControl offset) (emptiesCache offset) (leb (offset - 16) 9)
+
+-- ---- eight voices and the queue buffer that is lent to them
+pub record Written : Type 0 where
+  pub core : Core
+  pub queues : List ℤ
+
+abbrev pub written : Core → List ℤ → Written
+written k q = record { core = k; queues = q }
+
+-- the first n registers of a list of addresses and values
+unfoldable pub registersWritten : SguVersion → ℕ → List ℕ → List ℕ → Written → Written
+registersWritten version zero addresses values s = s
+registersWritten version (suc n) addresses values s =
+    let b = registersWritten version n addresses values s in
+    let address = getD addresses n 0 in
+    let value = getD values n 0 in
+    record { core = writeRegister version (b .core) address value; queues = writeRegisterQueues version (b .core) (b .queues) address value }
+
+-- the first n bytes of a list that are written to a RAM of some length: an address past its end is none
+unfoldable pub afterRamWrites : ℕ → ℕ → List ℕ → Core → Core
+afterRamWrites ram zero addresses k = k
+afterRamWrites ram (suc n) addresses k =
+    let b = afterRamWrites ram n addresses k in
+    cond (ltb (getD addresses n 0) ram) (afterRamWrite b (getD addresses n 0)) b
