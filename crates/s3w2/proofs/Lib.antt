@@ -4,5 +4,6 @@ pub mod Sounds
 pub mod Chunks
 pub mod Mixes
 pub mod Kept
+pub mod Listed
 pub mod Bounds
 pub mod Ranges

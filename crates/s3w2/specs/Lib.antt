@@ -5,6 +5,7 @@ pub mod Fresh
 pub mod Ram
 pub mod Channels
 pub mod Registers
+pub mod Lists
 pub mod Sound
 pub mod Mixing
 pub mod Marked

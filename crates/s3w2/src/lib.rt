@@ -2,6 +2,7 @@
 mod addressed;
 mod channels;
 mod fresh;
+mod lists;
 mod mixing;
 mod ram;
 mod refusals;
