@@ -2,7 +2,7 @@
 use mathlib.Core.Path.{_≡_, sym, ap}
 use mathlib.Core.Bool.{true, false}
 use mathlib.Core.List.{List}
-use Prim.Native.Nat.{ℕ, _+_, _*_, _-_, _≤_, _<_}
+use Prim.Native.Nat.{ℕ, _+_, _*_, _≤_, _<_}
 use lib.Dec.{eqb, leb}
 use native.Mathlib.Omega.{arith}
 use lib.IntN.{ℤ}
@@ -120,18 +120,6 @@ module _ (k : Core) (ch : ℕ) where
         unfolding writeChannelControl
         write-out h = simp (le-ltb ch 8 h)
 
-        pub block-low : offset < 16 → writeChannelControl version k ch offset value ≡ writeBlock version k ch offset value
-        unfolding writeBlock
-        block-low h = simp (lt-ltb offset 16 h)
-
-        pub block-last : 16 ≤ offset → offset ≡ 26 → writeChannelControl version k ch offset value ≡ writeBlock version k ch offset value
-        unfolding writeBlock
-        block-last g h = simp (le-ltb offset 16 g, eq-eqb offset 26 h)
-
-        pub block-pcm : 16 ≤ offset → (offset ≡ 26 → ⊥) → writeChannelPcmReg k ch (offset - 16) value ≡ writeBlock version k ch offset value
-        unfolding writeBlock
-        block-pcm g h = simp (le-ltb offset 16 g, ne-eqb offset 26 h)
-
         module _ (q : List ℤ) where
           pub queues-in : ch < 8 → sets q (ch * 2048) (writeControlEntries version (channelAt k ch) (part q (ch * 2048) 2048) offset value) ≡ writeChannelControlQueues version k q ch offset value
           unfolding writeChannelControlQueues
@@ -140,18 +128,6 @@ module _ (k : Core) (ch : ℕ) where
           pub queues-out : 8 ≤ ch → q ≡ writeChannelControlQueues version k q ch offset value
           unfolding writeChannelControlQueues
           queues-out h = simp (le-ltb ch 8 h)
-
-          pub queues-low : offset < 16 → writeChannelControlQueues version k q ch offset value ≡ writeBlockQueues version k q ch offset value
-          unfolding writeBlockQueues
-          queues-low h = simp (lt-ltb offset 16 h)
-
-          pub queues-last : 16 ≤ offset → offset ≡ 26 → writeChannelControlQueues version k q ch offset value ≡ writeBlockQueues version k q ch offset value
-          unfolding writeBlockQueues
-          queues-last g h = simp (le-ltb offset 16 g, eq-eqb offset 26 h)
-
-          pub queues-pcm : 16 ≤ offset → (offset ≡ 26 → ⊥) → q ≡ writeBlockQueues version k q ch offset value
-          unfolding writeBlockQueues
-          queues-pcm g h = simp (le-ltb offset 16 g, ne-eqb offset 26 h)
 
 -- ---- the wavetables
 module _ (k : Core) (at : ℕ) (n : length (k .wavetables) ≡ 2048) (h : 2048 ≤ at) where

@@ -61,7 +61,7 @@ module _ (offset : ℕ) where
       entries-pcm e = sym (ap (λ (t : Bool). cond t (writeControlEntries version c q offset value) q) e)
 
 module _ (version : SguVersion) (k : Core) (ch offset value : ℕ) (h : ch < 8) where
-  block-stored : storedChannel k ch (blockChannel version (channelAt k ch) offset value) (blockEmpties offset) ≡ writeBlock version k ch offset value
+  pub block-stored : storedChannel k ch (blockChannel version (channelAt k ch) offset value) (blockEmpties offset) ≡ writeBlock version k ch offset value
   unfolding blockChannel blockEmpties writeBlock
   block-stored = by (isControl offset)
     where
@@ -70,7 +70,7 @@ module _ (version : SguVersion) (k : Core) (ch offset value : ℕ) (h : ch < 8) 
       by true = write-in k ch version offset value h
       by false = write-pcm-in k ch (offset - 16) value h
 
-  block-queues : (q ys : List ℤ) → length q ≡ 16384 → ys ≡ blockEntries version (channelAt k ch) (take (ch * 2048 + 2048 - ch * 2048) (drop (ch * 2048) q)) offset value
+  pub block-queues : (q ys : List ℤ) → length q ≡ 16384 → ys ≡ blockEntries version (channelAt k ch) (take (ch * 2048 + 2048 - ch * 2048) (drop (ch * 2048) q)) offset value
       → putMid (ch * 2048) (ch * 2048 + 2048 - ch * 2048) q ys ≡ writeBlockQueues version k q ch offset value
   unfolding blockEntries writeBlockQueues
   block-queues q ys n e = by (isControl offset) e

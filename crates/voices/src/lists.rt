@@ -12,7 +12,13 @@ use version::SguVersion;
 use voice::Channel;
 
 // A write at a block's offset; the channel is lent its own part of the queue buffer.
-fn write_at(c: Channel, version: SguVersion, queue: &mut [i16], offset: u8, value: u8) -> Channel
+pub(crate) fn write_at(
+    c: Channel,
+    version: SguVersion,
+    queue: &mut [i16],
+    offset: u8,
+    value: u8,
+) -> Channel
     ensures { λ r. ⌜ (r ≡ blockChannel version c offset value) × (now (queue .exit) ≡ blockEntries version c (now (queue .entry)) offset value) ⌝ }
 {
     if offset < 0x10 {
@@ -25,7 +31,7 @@ fn write_at(c: Channel, version: SguVersion, queue: &mut [i16], offset: u8, valu
 }
 
 // Whether such a write empties the cache.
-fn empties(offset: u8) -> bool
+pub(crate) fn empties(offset: u8) -> bool
     ensures { λ r. ⌜ r ≡ blockEmpties offset ⌝ }
 {
     if offset < 0x10 {

@@ -6,6 +6,8 @@ ghost use Rattle.voices.specs.Writes.{withQueues, writeChannelControl, w
 use crate::Core;
 use crate::addresses::channel_of;
 use crate::addresses::offset_of;
+use crate::lists::empties;
+use crate::lists::write_at;
 use version::SguVersion;
 use voice::Channel;
 
@@ -80,13 +82,11 @@ impl Core {
         requires { ⌜ (ch < 8) × (length (now queues) ≡ 16384) ⌝ }
         ensures { λ r. ⌜ (r ≡ writeBlock version self ch offset value) × (now (queues .exit) ≡ writeBlockQueues version self (now (queues .entry)) ch offset value) ⌝ }
     {
-        if offset < 0x10 {
-            return self.write_voice(version, queues, ch, offset, value);
-        }
-        if offset == 0x1A {
-            return self.write_voice(version, queues, ch, offset, value);
-        }
-        self.write_pcm_reg(ch, offset - 0x10, value)
+        let c = self.channels[ch];
+        let from = ch * 2048;
+        let to = from + 2048;
+        let d = write_at(c, version, &mut queues[from..to], offset, value);
+        self.stored(ch, d, empties(offset))
     }
 
     // 0 to 0x7FF are wavetables, 0x800 to 0x8FF eight blocks of 32.
