@@ -29,13 +29,13 @@ use Rattle.voices.proofs.Voices.{control-changed, pcm-changed, read-cha
 -- ---- the test and what it says
 module _ (k : Core) (version : SguVersion) (ram : ℕ) where
   pub accepted-core : SizedCore k → acceptsCore k version ram ≡ true → AcceptedCore k version ram
-  accepted-core z e = record { sized = z; each = λ j h. accepted-channel (channelAt k j) version ram (first-each k version ram 8 j e h) }
+  accepted-core z e = record { sized = z; each = λ j h. accepted-channel (channelAt k j) version ram (first-each (k .channels) version ram 8 j e h) }
 
-  first-accepted : (n : ℕ) → ((j : ℕ) → j < n → AcceptedChannel (channelAt k j) version ram) → acceptsFirst n k version ram ≡ true
+  first-accepted : (n : ℕ) → ((j : ℕ) → j < n → AcceptedChannel (channelAt k j) version ram) → acceptsFirst n (k .channels) version ram ≡ true
   unfolding acceptsFirst
   first-accepted zero a = refl
   first-accepted (suc n) a =
-      together (acceptsFirst n k version ram) (acceptsChannel (channelAt k n) version ram) (first-accepted n (λ j h. a j (omega arith))) (channel-accepted (channelAt k n) version ram (a n (omega arith)))
+      together (acceptsFirst n (k .channels) version ram) (acceptsChannel (channelAt k n) version ram) (first-accepted n (λ j h. a j (omega arith))) (channel-accepted (channelAt k n) version ram (a n (omega arith)))
 
   pub core-accepted : AcceptedCore k version ram → acceptsCore k version ram ≡ true
   core-accepted a = first-accepted 8 (a .each)

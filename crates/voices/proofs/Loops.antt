@@ -7,7 +7,7 @@ use native.Mathlib.Numerals.{add-one}
 use native.Mathlib.Omega.{arith}
 use native.Mathlib.Decide.{decLt}
 use lib.IntN.{pos}
-use lib.ListN.{length, set, replicate}
+use lib.ListN.{length, getD, set, replicate}
 use lib.Seq.{sets}
 use Rattle.num.proofs.Choice.{both, together, never}
 use Rattle.version.specs.declared.SguVersion.{SguVersion}
@@ -69,27 +69,27 @@ module _ (address : ℕ) where
   ram-more k r x n e h = h ∙ ap (λ (y : Core). afterRamWriteAt address y n) e ∙ ap (λ (m : ℕ). afterRamWriteTo m k address) (sym (add-one n))
 
 -- ---- accepted channels
-module _ (k : Core) (version : SguVersion) (ram : ℕ) where
-  pub first-more : (n : ℕ) → acceptsFirst n k version ram ≡ true → acceptsChannel (channelAt k n) version ram ≡ true → acceptsFirst (n + 1) k version ram ≡ true
+module _ (l : List Channel) (version : SguVersion) (ram : ℕ) where
+  pub first-more : (n : ℕ) → acceptsFirst n l version ram ≡ true → acceptsChannel (getD l n noChannel) version ram ≡ true → acceptsFirst (n + 1) l version ram ≡ true
   unfolding acceptsFirst
-  first-more n e h = ap (λ (m : ℕ). acceptsFirst m k version ram) (add-one n) ∙ together (acceptsFirst n k version ram) (acceptsChannel (channelAt k n) version ram) e h
+  first-more n e h = ap (λ (m : ℕ). acceptsFirst m l version ram) (add-one n) ∙ together (acceptsFirst n l version ram) (acceptsChannel (getD l n noChannel) version ram) e h
 
-  pub first-each : (n j : ℕ) → acceptsFirst n k version ram ≡ true → j < n → acceptsChannel (channelAt k j) version ram ≡ true
+  pub first-each : (n j : ℕ) → acceptsFirst n l version ram ≡ true → j < n → acceptsChannel (getD l j noChannel) version ram ≡ true
   unfolding acceptsFirst
   first-each zero j e h = absurd (omega arith)
   first-each (suc n) j e h =
-      let b = both (acceptsFirst n k version ram) (acceptsChannel (channelAt k n) version ram) e in
+      let b = both (acceptsFirst n l version ram) (acceptsChannel (getD l n noChannel) version ram) e in
       elim (decLt j n) [
-        | yes l ↦ first-each n j (b .0) l
-        | no l ↦ ap (λ (m : ℕ). acceptsChannel (channelAt k m) version ram) (last n j h l) ∙ b .1
+        | yes y ↦ first-each n j (b .0) y
+        | no y ↦ ap (λ (m : ℕ). acceptsChannel (getD l m noChannel) version ram) (last n j h y) ∙ b .1
       ]
     where
       last : (n j : ℕ) → j < suc n → (j < n → ⊥) → j ≡ n
       last n j h l = omega arith
 
-  pub first-fails : (n j : ℕ) → acceptsChannel (channelAt k j) version ram ≡ false → j < n → false ≡ acceptsFirst n k version ram
-  first-fails n j e h = at (acceptsFirst n k version ram) refl
+  pub first-fails : (n j : ℕ) → acceptsChannel (getD l j noChannel) version ram ≡ false → j < n → false ≡ acceptsFirst n l version ram
+  first-fails n j e h = at (acceptsFirst n l version ram) refl
     where
-      at : (t : Bool) → acceptsFirst n k version ram ≡ t → false ≡ acceptsFirst n k version ram
+      at : (t : Bool) → acceptsFirst n l version ram ≡ t → false ≡ acceptsFirst n l version ram
       at true f = never (sym (first-each n j f h) ∙ e)
       at false f = sym f

@@ -1,21 +1,23 @@
 -- The states in which a chip accepts the eight channels.
 use mathlib.Core.Path.{_≡_}
 use mathlib.Core.Bool.{Bool, true, _&&_}
+use mathlib.Core.List.{List}
 use Prim.Native.Nat.{ℕ, zero, suc, _<_}
-use lib.ListN.{length}
+use lib.ListN.{length, getD}
 use Rattle.version.specs.declared.SguVersion.{SguVersion}
 use Rattle.voice.specs.Accepted.{acceptsChannel, AcceptedChannel}
-use Rattle.voices.specs.Core.{channelAt}
+use Rattle.voice.specs.declared.Channel.{Channel}
+use Rattle.voices.specs.Core.{channelAt, noChannel}
 use Rattle.voices.specs.declared.Core.{Core}
 
 -- the first n channels
-unfoldable pub acceptsFirst : ℕ → Core → SguVersion → ℕ → Bool
-acceptsFirst zero k version ram = true
-acceptsFirst (suc n) k version ram = acceptsFirst n k version ram && acceptsChannel (channelAt k n) version ram
+unfoldable pub acceptsFirst : ℕ → List Channel → SguVersion → ℕ → Bool
+acceptsFirst zero l version ram = true
+acceptsFirst (suc n) l version ram = acceptsFirst n l version ram && acceptsChannel (getD l n noChannel) version ram
 
 -- `ram` is the RAM's length
 abbrev pub acceptsCore : Core → SguVersion → ℕ → Bool
-acceptsCore k version ram = acceptsFirst 8 k version ram
+acceptsCore k version ram = acceptsFirst 8 (k .channels) version ram
 
 -- the tables as long as they are in the chip
 pub record SizedCore (k : Core) : Type 0 where

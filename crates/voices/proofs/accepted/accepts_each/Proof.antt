@@ -6,14 +6,14 @@ use native.Mathlib.Omega.{arith}
 use borrow.Author.Tests.{not-true, not-false}
 use Rattle.voices.specs.Accepted.{acceptsFirst}
 use Rattle.voices.proofs.Loops.{first-more, first-fails}
-use Rattle.voices.proofs.Core.accepts.Statement.{statement}
-use Rattle.voices.proofs.Core.accepts.Tie as tie
+use Rattle.voices.proofs.accepted.accepts_each.Statement.{statement}
+use Rattle.voices.proofs.accepted.accepts_each.Tie as tie
 
 abbrev Inv-loop : tie.InvT-loop
-Inv-loop version length self ch₀ ch = (ch ≤ 8) × (acceptsFirst ch self version length ≡ true)
+Inv-loop version length channels ch₀ ch = (ch ≤ 8) × (acceptsFirst ch channels version length ≡ true)
 
 abbrev μ-loop : tie.MeasureT-loop
-μ-loop version length self ch₀ ch = 8 - ch
+μ-loop version length channels ch₀ ch = 8 - ch
 
 loop-holds : tie.Need-loop-holds Inv-loop μ-loop
 unfolding acceptsFirst
@@ -22,8 +22,8 @@ loop-holds c = (omega arith, refl)
 mul-c : tie.Need-mul-c Inv-loop μ-loop
 mul-c c = search needs
 
-element-copy-out-c : tie.Need-element-copy-out-c Inv-loop μ-loop
-element-copy-out-c c = search needs
+array-copy-out-c : tie.Need-array-copy-out-c Inv-loop μ-loop
+array-copy-out-c c = search needs
 
 accepts-requires : tie.Need-accepts-requires Inv-loop μ-loop
 accepts-requires c κs = search needs
@@ -53,15 +53,15 @@ returns-2 c =
     let e : l .ch ≡ 8 = omega (arith, l .inv .0, c .loop-test .left) in
     sym (l .inv .1) ∙ ap (λ (m : ℕ). acceptsFirst m (a .t1) (a .version) (a .length)) e
 
-pub accepts-spec : {M : Type 1} → statement M
-accepts-spec =
+pub accepts-each-spec : {M : Type 1} → statement M
+accepts-each-spec =
     tie.close
     (tie.spec
     Inv-loop
     μ-loop
     loop-holds
     mul-c
-    element-copy-out-c
+    array-copy-out-c
     accepts-requires
     returns
     add-ch
