@@ -19,6 +19,10 @@ fn main() {
         match f[0] {
             "W" => chip.write_register(n(1), n(2) as u8),
             "M" => chip.write_pcm_ram(n(1), n(2) as u8),
+            "R" => {
+                chip.read_register(n(1));
+            }
+            "P" => {}
             "V" => chip.set_version(
                 [SguVersion::V1, SguVersion::V2, SguVersion::V2_1, SguVersion::V3, SguVersion::V3_1][n(1) as usize],
             ),

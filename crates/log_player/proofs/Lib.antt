@@ -3,3 +3,4 @@ pub mod Stops
 pub mod Whole
 pub mod Running
 pub mod Keeping
+pub mod Bursting

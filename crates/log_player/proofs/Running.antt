@@ -2,7 +2,7 @@
 use mathlib.Core.Path.{_≡_, refl, sym, ap, _∙_}
 use mathlib.Core.Bool.{Bool, true, false, cond}
 use mathlib.Core.List.{List, [], _∷_, _++_, append-assoc, append-nil}
-use Prim.Native.Nat.{ℕ, suc, _+_, _-_, _≤_, _<_, min}
+use Prim.Native.Nat.{ℕ, suc, _+_, _-_, _≤_, _<_, _^_, min}
 use native.Mathlib.Numerals.{add-one}
 use native.Mathlib.Omega.{arith}
 use lib.Dec.{eqb, leb}
@@ -25,6 +25,7 @@ use Rattle.log_player.specs.Applied.{after, printed}
 use Rattle.log_player.specs.Logs.{malformed, restText}
 use Rattle.log_player.specs.Steps.{firstLine, nextOf, stepText}
 use Rattle.log_player.specs.Runs.{hasRoom, Runs}
+use Rattle.log_player.specs.Bursts.{Bursts}
 use Rattle.log_player.proofs.Stops.{Steps}
 use Rattle.log_player.proofs.Whole.{step-line, step-bad}
 
@@ -107,6 +108,38 @@ module _ (w a : World) (number line place end e : ℕ) (start input : List ℕ) 
   runs-stop (Line k) t r n s = absurd (miss (1 ∷ 2 ∷ []) 0 tt t)
   runs-stop Rest t r n s = runs-rest r s
   runs-stop Bad t r n s = runs-bad r n s
+
+-- ---- where a turn of `run` stands, whether it began with lines that write or not
+pub record Here (w : World) (number : ℕ) (start input : List ℕ) (out mid : List ℕ) (end before rams queueds : ℕ) (player : Player) (ram : List ℕ) (queues : List ℤ) (place line : ℕ) : Type 0 where
+  pub runs : Runs w number start (world player ram queues) line (Line place) (drop place input) out mid end
+  pub long : (length ram ≡ rams) × (length queues ≡ queueds)
+  pub on : (before ≤ line) × (line + 1 < 2 ^ 64)
+
+pub here-still :
+    {w : World} {number : ℕ} {start : List ℕ} (input : List ℕ) {out mid : List ℕ} {end rams queueds : ℕ} {player : Player} {ram : List ℕ} {queues : List ℤ} {place line : ℕ} →
+    Runs w number start (world player ram queues) line (Line place) (drop place input) out mid end → length ram ≡ rams → length queues ≡ queueds → line + 1 < 2 ^ 64 →
+    Here w number start input out mid end line rams queueds player ram queues place line
+here-still input r m q l = record { runs = r; long = (m, q); on = (omega arith, l) }
+
+module _ {w : World} {number : ℕ} {start input : List ℕ} {out mid : List ℕ} {end before rams queueds : ℕ} {player next : Player} {ram fill : List ℕ} {queues fed : List ℤ} {place behind line count : ℕ} where
+  pub here-written :
+      Here w number start input out mid end before rams queueds player ram queues place line → Bursts (world player ram queues) line (drop place input) (world next fill fed) count (drop behind input) →
+      (line ≤ count) × (count + 1 < 2 ^ 64) → length fill ≡ length ram → length fed ≡ length queues → Here w number start input out mid end before rams queueds next fill fed behind count
+  here-written h b o r q = record {
+    runs = record {
+      text = h .runs .text;
+      put = h .runs .put;
+      whole = h .runs .whole;
+      left = λ more. h .runs .left more ∙ ap (λ (t : List ℕ). h .runs .text ++ t) (b .left more);
+    };
+    long = (r ∙ h .long .0, q ∙ h .long .1);
+    on = (omega (arith, h .on .0, o .0), o .1);
+  }
+
+  pub here-by :
+      fill ≡ ram → fed ≡ queues → next ≡ player → behind ≡ place → count ≡ line → Here w number start input out mid end before rams queueds player ram queues place line →
+      Here w number start input out mid end before rams queueds next fill fed behind count
+  here-by a b c d e h = rw (a, b, c, d, e) h
 
 -- what `run` promises of its answer
 abbrev pub Promised : World → ℕ → List ℕ → List ℕ → List ℕ → List ℤ → List ℕ → List ℕ → Ran → Type 0

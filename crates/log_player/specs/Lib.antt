@@ -3,3 +3,4 @@ pub mod Applied
 pub mod Logs
 pub mod Steps
 pub mod Runs
+pub mod Bursts

@@ -1,4 +1,5 @@
 // A log played: each line on a chip, and the text that it prints.
+mod bursts;
 mod playing;
 mod runs;
 mod steps;
@@ -42,4 +43,23 @@ pub struct Ran {
     pub from: usize,
     pub number: u64,
     pub end: usize,
+}
+
+// What a line writes: a value to an address.
+pub(crate) enum Assigned {
+    To(u32, u8),
+    Nothing,
+}
+
+// So many lines, and the place behind them.
+pub(crate) struct Collected {
+    pub count: usize,
+    pub from: usize,
+}
+
+// A player after some lines, the place behind them, and the number of the line there.
+pub(crate) struct Burst {
+    pub player: Player,
+    pub from: usize,
+    pub number: u64,
 }

@@ -11,6 +11,7 @@ ghost use Rattle.log_player.specs.Runs.{hasRoom, Runs, ranTo};
 use crate::Next;
 use crate::Player;
 use crate::Ran;
+use crate::bursts::begins_write;
 
 // Room for the text of any line: it has at most 16,000 bytes, of 1,000 frames.
 const ROOM: usize = 16384;
@@ -68,6 +69,13 @@ impl Player {
         let mut line = number;
         let mut end = 0;
         while has_room(out.len(), end, line) {
+            let first = num::byte_at(input, place);
+            if begins_write(first) {
+                let burst = player.burst(first == 77, input, place, line, &mut *ram, &mut *queues);
+                player = burst.player;
+                place = burst.from;
+                line = burst.number;
+            }
             let stepped = player.step(input, place, line, &mut *ram, &mut *queues, &mut *out, end);
             player = stepped.player;
             end = stepped.end;

@@ -1,9 +1,9 @@
-// s3w2_bench FRAMES: reads a log without C lines from standard input, clocks that many frames with clock_mixed_into over
-// zeroed sides, 1,000 at a time, and prints the sum of all left values, a comma, the sum of all right values.
+// s3w2_bench FRAMES: reads a log without C lines from standard input (of less than 2,097,152 bytes), clocks that many frames with
+// clock_mixed_into over zeroed sides, 1,000 at a time, and prints the sum of all left values, a comma, the sum of all right values.
 use decimal::TakenNatural;
-use log::Line;
+use log_player::Next;
+use log_player::Player;
 use s3w2::Chip;
-use version::SguVersion;
 
 // A chip, and the sums of the values that it has given, in two's complement of 64 bits.
 struct Summed {
@@ -12,54 +12,53 @@ struct Summed {
     right: u64,
 }
 
-fn applied(chip: Chip, line: Line, ram: &mut [u8], queues: &mut [i16]) -> Chip {
-    match line {
-        Line::Write { address, value } => {
-            let called = chip.write_register(queues, address, value);
-            called.chip
-        }
-        Line::WriteRam { address, value } => {
-            let called = chip.write_pcm_ram(ram, address, value);
-            called.chip
-        }
-        Line::Version(number) => {
-            let called = chip.set_version(SguVersion::numbered(number as u64));
-            called.chip
-        }
-        Line::Read(_) => chip,
-        Line::Peek(_) => chip,
-        Line::Clock(_) => chip,
-        Line::Malformed => chip,
-    }
-}
-
-// A chip after some lines, and the place behind them.
+// A player after a log, and the number of the line that is malformed; 0 where none is.
 struct Loaded {
-    chip: Chip,
-    from: usize,
+    player: Player,
+    bad: u64,
 }
 
-impl Loaded {
-    // The line that ends at a place; where no line ends there is none.
-    fn step(self, text: &[u8], i: usize, ram: &mut [u8], queues: &mut [i16]) -> Loaded {
-        if num::byte_at(text, i) != 10 {
-            return self;
-        }
-        let chip = self.chip;
-        let line = log::parse(num::part(text, self.from, i));
-        Loaded {
-            chip: applied(chip, line, ram, queues),
-            from: std::num::wrapping_add_usize(i, 1),
-        }
+// The end of a log, at `from`: a line that is not closed is malformed.
+fn ended(player: Player, next: Next, from: usize, number: u64, length: usize) -> Loaded {
+    let Next::Rest = next else {
+        return Loaded {
+            player,
+            bad: number,
+        };
+    };
+    if from < length {
+        return Loaded {
+            player,
+            bad: number,
+        };
     }
+    Loaded { player, bad: 0 }
 }
 
-fn load(chip: Chip, ram: &mut [u8], queues: &mut [i16], text: &[u8]) -> Chip {
-    let mut s = Loaded { chip, from: 0 };
-    for i in 0..text.len() {
-        s = s.step(text, i, &mut *ram, &mut *queues);
+// Plays a log; what its lines print is not kept.
+fn load(
+    fresh: Player,
+    text: &[u8],
+    ram: &mut [u8],
+    queues: &mut [i16],
+    printed: &mut [u8],
+) -> Loaded {
+    let mut player = fresh;
+    let mut from = 0;
+    let mut number = 1;
+    let mut turns = text.len();
+    while 0 < turns {
+        let ran = player.run(text, from, number, &mut *ram, &mut *queues, &mut *printed);
+        player = ran.player;
+        from = ran.from;
+        number = ran.number;
+        let next = ran.next;
+        let Next::Line(_) = next else {
+            return ended(player, next, from, number, text.len());
+        };
+        turns -= 1;
     }
-    s.chip
+    Loaded { player, bad: 0 }
 }
 
 // A value in two's complement of 64 bits.
@@ -143,21 +142,43 @@ fn print_sums(summed: Summed) {
     io::write_all(libc::STDOUT_FILENO, b"\n");
 }
 
-// A fresh V3.1 chip, the log's lines, then the frames.
-fn play(ram: &mut [u8], queues: &mut [i16], text: &[u8]) -> Summed {
-    let made = Chip::with_version(&mut *ram, SguVersion::V3_1);
-    let chip = load(made.chip, &mut *ram, &mut *queues, text);
+fn print_bad(number: u64) {
+    io::write_all(libc::STDOUT_FILENO, b"bad,");
+    io::print_decimal(libc::STDOUT_FILENO, number);
+    io::write_all(libc::STDOUT_FILENO, b",17\n");
+}
+
+// A fresh V3.1 chip after a log.
+fn load_fresh(ram: &mut [u8], queues: &mut [i16], text: &[u8]) -> Loaded {
+    let mut printed = io::large_buffer();
+    let fresh = Player::fresh(&mut *ram);
+    load(fresh, text, ram, queues, &mut printed)
+}
+
+// The log, then the frames.
+fn play(ram: &mut [u8], queues: &mut [i16], text: &[u8]) {
+    let loaded = load_fresh(&mut *ram, &mut *queues, text);
+    if loaded.bad != 0 {
+        print_bad(loaded.bad);
+        return;
+    }
+    let player = loaded.player;
+    let chip = player.chip;
     let first = Summed {
         chip,
         left: 0,
         right: 0,
     };
-    first.clock_all(ram, queues, argument())
+    print_sums(first.clock_all(ram, queues, argument()));
 }
 
 fn run(ram: &mut [u8], queues: &mut [i16], text: &mut [u8]) {
-    let length = io::read_full(libc::STDIN_FILENO, text);
-    print_sums(play(ram, queues, &text[..length]));
+    let length = io::read_full(libc::STDIN_FILENO, &mut *text);
+    if length == text.len() {
+        io::write_all(libc::STDERR_FILENO, b"s3w2-bench: the log is too long\n");
+        return;
+    }
+    play(ram, queues, num::part(text, 0, length));
 }
 
 fn main() {

@@ -1,30 +1,27 @@
-use mathlib.Core.Path.{_≡_}
-use Prim.Native.Nat.{_-_}
-use lib.ListN.{length}
 use borrow.Author.Needs.{needs}
+use mathlib.Core.Path.{_≡_}
+use lib.ListN.{length}
 use Rattle.s3w2_bench.proofs.load.Statement.{statement}
 use Rattle.s3w2_bench.proofs.load.Tie as tie
 
 abbrev Inv-loop : tie.InvT-loop
-Inv-loop ram₀ queues₀ text s₀ i₀ i-end ram queues s i = (length ram ≡ length ram₀) × (length queues ≡ length queues₀)
+Inv-loop text ram₀ queues₀ printed₀ player₀ from₀ number₀ turns₀ ram queues printed player from number turns =
+    (length ram ≡ length ram₀) × (length queues ≡ length queues₀) × (length printed ≡ length printed₀)
 
 abbrev μ-loop : tie.MeasureT-loop
-μ-loop ram₀ queues₀ text s₀ i₀ i-end ram queues s i = i-end - i
+μ-loop text ram₀ queues₀ printed₀ player₀ from₀ number₀ turns₀ ram queues printed player from number turns = turns
 
 loop-holds : tie.Need-loop-holds Inv-loop μ-loop
 loop-holds c = search needs
 
-step-requires : tie.Need-step-requires Inv-loop μ-loop
-step-requires c κs = search needs
+run-requires : tie.Need-run-requires Inv-loop μ-loop
+run-requires c κs = search needs
 
-add-i : tie.Need-add-i Inv-loop μ-loop
-add-i c = search needs
+enum-told : tie.Need-enum-told Inv-loop μ-loop
+enum-told c = search needs
 
-loop-less : tie.Need-loop-less Inv-loop μ-loop
-loop-less c = search needs
-
-loop-again : tie.Need-loop-again Inv-loop μ-loop
-loop-again c = search needs
+ended-requires : tie.Need-ended-requires Inv-loop μ-loop
+ended-requires c κs = search needs
 
 same-length : tie.Need-same-length Inv-loop μ-loop
 same-length c = search needs
@@ -32,8 +29,32 @@ same-length c = search needs
 same-length-2 : tie.Need-same-length-2 Inv-loop μ-loop
 same-length-2 c = search needs
 
+same-length-3 : tie.Need-same-length-3 Inv-loop μ-loop
+same-length-3 c = search needs
+
 returns : tie.Need-returns Inv-loop μ-loop
 returns c = search needs
+
+sub-turns : tie.Need-sub-turns Inv-loop μ-loop
+sub-turns c = search needs
+
+loop-less : tie.Need-loop-less Inv-loop μ-loop
+loop-less c = search needs
+
+loop-again : tie.Need-loop-again Inv-loop μ-loop
+loop-again c = search needs
+
+same-length-4 : tie.Need-same-length-4 Inv-loop μ-loop
+same-length-4 c = search needs
+
+same-length-5 : tie.Need-same-length-5 Inv-loop μ-loop
+same-length-5 c = search needs
+
+same-length-6 : tie.Need-same-length-6 Inv-loop μ-loop
+same-length-6 c = search needs
+
+returns-2 : tie.Need-returns-2 Inv-loop μ-loop
+returns-2 c = search needs
 
 pub load-spec : {M : Type 1} → statement M
 load-spec =
@@ -42,10 +63,17 @@ load-spec =
     Inv-loop
     μ-loop
     loop-holds
-    step-requires
-    add-i
-    loop-less
-    loop-again
+    run-requires
+    enum-told
+    ended-requires
     same-length
     same-length-2
-    returns)
+    same-length-3
+    returns
+    sub-turns
+    loop-less
+    loop-again
+    same-length-4
+    same-length-5
+    same-length-6
+    returns-2)

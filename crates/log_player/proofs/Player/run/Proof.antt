@@ -1,4 +1,5 @@
 use borrow.Author.Needs.{needs}
+use mathlib.Core.Logic.{⊎-elim}
 use mathlib.Core.Path.{_≡_, refl, sym, subst, _∙_}
 use Prim.Native.Nat.{_-_, _^_}
 use native.Mathlib.Omega.{arith}
@@ -6,9 +7,17 @@ use lib.ListN.{length, drop}
 use Rattle.log_player.specs.declared.Next.the-variants.{Line}
 use Rattle.log_player.specs.Worlds.{world}
 use Rattle.log_player.specs.Runs.{Runs}
-use Rattle.log_player.proofs.Running.{runs-none, runs-line, runs-stop, no-rest, no-line, room-there, room-over, Promised, steps-as}
+use Rattle.log_player.proofs.Running.{runs-none, runs-line, runs-stop, no-rest, no-line, Here, here-still, here-written, here-by, room-there, room-over, Promised, steps-as}
 use Rattle.log_player.proofs.Player.run.Statement.{statement}
 use Rattle.log_player.proofs.Player.run.Tie as tie
+use Rattle.log_player.proofs.Player.run.Reads as reads
+use Rattle.log_player.proofs.Player.run.Lts as lts
+use Rattle.log_player.proofs.Player.burst.Reads as burst-reads
+use Rattle.log_player.proofs.Player.ran.Reads as ran-reads
+use Rattle.log_player.proofs.Player.step.Reads as step-reads
+use Rattle.log_player.proofs.bursts.begins_write.Reads as begins-write-reads
+use Rattle.log_player.proofs.runs.has_room.Reads as has-room-reads
+use Rattle.num.proofs.byte_at.Reads as byte-at-reads
 
 abbrev Inv-loop : tie.InvT-loop
 Inv-loop input from number ram₀ queues₀ out₀ player₀ place₀ line₀ end₀ ram queues out player place line end =
@@ -24,6 +33,30 @@ loop-holds c = (refl, refl, refl, runs-none _ _ _ _ _)
 has-room-requires : tie.Need-has-room-requires Inv-loop μ-loop
 has-room-requires c κs = search needs
 
+byte-at-requires : tie.Need-byte-at-requires Inv-loop μ-loop
+byte-at-requires c κs = search needs
+
+begins-write-requires : tie.Need-begins-write-requires Inv-loop μ-loop
+begins-write-requires c κs = search needs
+
+burst-requires : tie.Need-burst-requires Inv-loop μ-loop
+burst-requires c κs = c .before .before .before .before .before .before .has-room .ensures .1 (c .before .before .before .before .before .if1 .taken)
+
+-- where the turn stands, whichever way it came
+abbrev Came : Type 0
+Came = lts.Joined2 (has-room-reads.Asked, has-room-reads.Learnt, byte-at-reads.Asked, byte-at-reads.Learnt, begins-write-reads.Asked, begins-write-reads.Learnt, burst-reads.Asked, burst-reads.Learnt, step-reads.Asked, step-reads.Learnt, ran-reads.Asked, ran-reads.Learnt) reads.Pre reads.Post Inv-loop μ-loop
+
+came : (c : Came)
+    → (let a = c .before .before .before .before .before .before .before .before .before .args in let l = c .before .before .before .before .before .loop in
+    Here (world (a .self) (a .ram .now) (a .queues .now)) (a .number) (drop (a .from) (a .input .now)) (a .input .now) (a .out .now) (l .out) (l .end) (l .line) (length (a .ram .now)) (length (a .queues .now)) (c .if2 .player) (c .if2 .ram) (c .if2 .queues) (c .if2 .place) (c .if2 .line))
+came c =
+    let l = c .before .before .before .before .before .loop in
+    let still = here-still (c .before .before .before .before .before .before .before .before .before .args .input .now) (l .inv .3) (l .inv .0) (l .inv .1) (c .before .before .before .before .has-room .ensures .1 (c .before .before .before .if1 .taken)) in
+    ⊎-elim
+    (λ w. here-by (w .8) (w .9) (w .10) (w .11) (w .12) (here-written still (w .3 .ensures .0) (w .3 .ensures .1) (w .3 .kept .1 .1 .1 .1 .1 .0) (w .3 .kept .1 .1 .1 .1 .1 .1 .0)))
+    (λ w. here-by (w .1) (w .2) (w .3) (w .4) (w .5) still)
+    (c .if2 .came)
+
 step-requires : tie.Need-step-requires Inv-loop μ-loop
 step-requires c κs = search needs
 
@@ -34,36 +67,35 @@ ran-requires : tie.Need-ran-requires Inv-loop μ-loop
 ran-requires c κs = search needs
 
 same-length : tie.Need-same-length Inv-loop μ-loop
-same-length c = c .before .before .before .before .before .before .before .before .step .kept .1 .1 .1 .1 .0 ∙ c .before .before .before .before .before .before .before .before .before .before .before .before .before .before .loop .inv .0
+same-length c = c .before .before .before .before .before .before .before .before .step .kept .1 .1 .1 .1 .0 ∙ came (c .before .before .before .before .before .before .before .before .before .before .before .before) .long .0
 
 same-length-2 : tie.Need-same-length-2 Inv-loop μ-loop
-same-length-2 c = c .before .before .before .before .before .before .before .before .step .kept .1 .1 .1 .1 .1 .0 ∙ c .before .before .before .before .before .before .before .before .before .before .before .before .before .before .loop .inv .1
+same-length-2 c = c .before .before .before .before .before .before .before .before .step .kept .1 .1 .1 .1 .1 .0 ∙ came (c .before .before .before .before .before .before .before .before .before .before .before .before) .long .1
 
 same-length-3 : tie.Need-same-length-3 Inv-loop μ-loop
-same-length-3 c = c .before .before .before .before .before .before .before .before .step .kept .1 .1 .1 .1 .1 .1 .0 ∙ c .before .before .before .before .before .before .before .before .before .before .before .before .before .before .loop .inv .2
+same-length-3 c = c .before .before .before .before .before .before .before .before .step .kept .1 .1 .1 .1 .1 .1 .0 ∙ c .before .before .before .before .before .before .before .before .before .before .before .before .before .before .before .before .before .loop .inv .2
 
 returns : tie.Need-returns Inv-loop μ-loop
 returns c =
     let step = c .before .before .before .before .before .before .before .before .step .ensures in
-    let loop = c .before .before .before .before .before .before .before .before .before .before .before .before .before .before .loop in
-    let start = c .before .before .before .before .before .before .before .before .before .before .before .before .before .before .before .before .before .before in
-    let room = room-there _ _ _ _ (c .before .before .before .before .before .before .before .before .before .before .before .before .before .has-room .ensures .0) (c .before .before .before .before .before .before .before .before .before .before .before .before .if1 .taken) in
-    subst (Promised (world (c .before .before .before .before .before .before .before .before .before .before .before .before .before .before .before .before .before .before .args .self) (c .before .before .before .before .before .before .before .before .before .before .before .before .before .before .before .before .before .before .args .ram .now) (c .before .before .before .before .before .before .before .before .before .before .before .before .before .before .before .before .before .before .args .queues .now)) (start .args .number) (drop (start .args .from) (start .args .input .now)) (start .args .input .now) _ _ (start .args .out .now) _) (sym (c .ran .ensures))
-    (runs-stop _ _ _ _ _ _ _ _ (start .args .input .now) _ _ _ _ _ _ room _ (c .before .match .keys2) (loop .inv .3) (sym (step .0)) (steps-as _ _ _ _ _ _ _ _ _ _ _ _ _ refl step), ((λ e. sym (step .0) ∙ e), λ place e. no-line _ place (c .before .match .keys2) e))
+    let start = c .before .before .before .before .before .before .before .before .before .before .before .before .before .before .before .before .before .before .before .before .before in
+    let room = room-there _ _ _ _ (c .before .before .before .before .before .before .before .before .before .before .before .before .before .before .before .before .has-room .ensures .0) (c .before .before .before .before .before .before .before .before .before .before .before .before .before .before .before .if1 .taken) in
+    subst (Promised (world (c .before .before .before .before .before .before .before .before .before .before .before .before .before .before .before .before .before .before .before .before .before .args .self) (c .before .before .before .before .before .before .before .before .before .before .before .before .before .before .before .before .before .before .before .before .before .args .ram .now) (c .before .before .before .before .before .before .before .before .before .before .before .before .before .before .before .before .before .before .before .before .before .args .queues .now)) (start .args .number) (drop (start .args .from) (start .args .input .now)) (start .args .input .now) _ _ (start .args .out .now) _) (sym (c .ran .ensures))
+    (runs-stop _ _ _ _ _ _ _ _ (start .args .input .now) _ _ _ _ _ _ room _ (c .before .match .keys2) (came (c .before .before .before .before .before .before .before .before .before .before .before .before) .runs) (sym (step .0)) (steps-as _ _ _ _ _ _ _ _ _ _ _ _ _ refl step), ((λ e. sym (step .0) ∙ e), λ place e. no-line _ place (c .before .match .keys2) e))
 
 add-line : tie.Need-add-line Inv-loop μ-loop
-add-line c = omega (arith, c .before .before .before .before .before .before .before .before .before .before .before .before .before .before .has-room .ensures .1 (c .before .before .before .before .before .before .before .before .before .before .before .before .before .if1 .taken))
+add-line c = omega (arith, came (c .before .before .before .before .before .before .before .before .before .before .before .before .before .before) .on .1)
 
 loop-less : tie.Need-loop-less Inv-loop μ-loop
-loop-less c = omega (arith, c .before .before .before .before .before .before .before .before .before .before .before .before .before .before .has-room .ensures .1 (c .before .before .before .before .before .before .before .before .before .before .before .before .before .if1 .taken))
+loop-less c = omega (arith, came (c .before .before .before .before .before .before .before .before .before .before .before .before .before .before) .on .0, came (c .before .before .before .before .before .before .before .before .before .before .before .before .before .before) .on .1)
 
 loop-again : tie.Need-loop-again Inv-loop μ-loop
 loop-again c =
-    let step = c .before .before .before .before .before .before .before .before .before .step .ensures in
-    let kept = c .before .before .before .before .before .before .before .before .before .step .kept in
-    let inv = c .before .before .before .before .before .before .before .before .before .before .before .before .before .before .before .loop .inv in
-    let room = room-there _ _ _ _ (c .before .before .before .before .before .before .before .before .before .before .before .before .before .before .has-room .ensures .0) (c .before .before .before .before .before .before .before .before .before .before .before .before .before .if1 .taken) in
-    (kept .1 .1 .1 .1 .0 ∙ inv .0, kept .1 .1 .1 .1 .1 .0 ∙ inv .1, kept .1 .1 .1 .1 .1 .1 .0 ∙ inv .2, runs-line _ _ _ _ _ _ _ _ (c .before .before .before .before .before .before .before .before .before .before .before .before .before .before .before .before .before .before .before .args .input .now) _ _ _ _ _ _ room _ (inv .3) (sym (step .0) ∙ c .before .next .given .1) (steps-as _ _ _ _ _ _ _ _ _ _ _ _ _ (c .before .next .given .1) step))
+    let step = c .before .before .before .before .before .before .before .before .before .before .step .ensures in
+    let kept = c .before .before .before .before .before .before .before .before .before .before .step .kept in
+    let here = came (c .before .before .before .before .before .before .before .before .before .before .before .before .before .before) in
+    let room = room-there _ _ _ _ (c .before .before .before .before .before .before .before .before .before .before .before .before .before .before .before .before .before .before .has-room .ensures .0) (c .before .before .before .before .before .before .before .before .before .before .before .before .before .before .before .before .before .if1 .taken) in
+    (kept .1 .1 .1 .1 .0 ∙ here .long .0, kept .1 .1 .1 .1 .1 .0 ∙ here .long .1, kept .1 .1 .1 .1 .1 .1 .0 ∙ c .before .before .before .before .before .before .before .before .before .before .before .before .before .before .before .before .before .before .before .loop .inv .2, runs-line _ _ _ _ _ _ _ _ (c .before .before .before .before .before .before .before .before .before .before .before .before .before .before .before .before .before .before .before .before .before .before .before .args .input .now) _ _ _ _ _ _ room _ (here .runs) (sym (step .0) ∙ c .before .before .next .given .1) (steps-as _ _ _ _ _ _ _ _ _ _ _ _ _ (c .before .before .next .given .1) step))
 
 ran-requires-2 : tie.Need-ran-requires-2 Inv-loop μ-loop
 ran-requires-2 c κs = search needs
@@ -90,6 +122,9 @@ run-spec =
     μ-loop
     loop-holds
     has-room-requires
+    byte-at-requires
+    begins-write-requires
+    burst-requires
     step-requires
     enum-known-next
     ran-requires
