@@ -1,6 +1,6 @@
 -- Texts tell fields apart: two chips of which the same text is seen have the same version and the same fields. Assumes nothing but what a
 -- session's lines promise (TextsOk).
-use mathlib.Core.Path.{_≡_, refl, sym, ap, ap₂, _∙_, subst}
+use mathlib.Core.Path.{_≡_, refl, sym, ap, ap₂, _∙_}
 use mathlib.Core.List.{List, [], _∷_}
 use Prim.Native.Nat.{ℕ, suc, _+_, _≤_}
 use native.Mathlib.Omega.{arith}

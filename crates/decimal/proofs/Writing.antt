@@ -2,21 +2,20 @@
 use mathlib.Core.Path.{_≡_, refl, sym, ap, _∙_}
 use mathlib.Core.Bool.{Bool, true, false}
 use mathlib.Core.List.{List, [], _∷_, _++_, append-assoc, append-nil}
-use Prim.Native.Nat.{ℕ, zero, suc, _+_, _-_, _/_, _%_, _≤_, _<_, _^_, min}
+use Prim.Native.Nat.{ℕ, zero, suc, _+_, _/_, _%_, _≤_, _<_, _^_, min}
 use native.Mathlib.Nat.{add-zero, pow-suc}
 use native.Mathlib.Numerals.{add-one}
 use native.Mathlib.Omega.{arith}
 use native.Mathlib.Decide.{decLe}
 use lib.Dec.{ltb}
-use lib.IntN.{ℤ, pos, negsuc, natAbs, _-ℤ_}
+use lib.IntN.{ℤ, pos, negsuc, natAbs}
 use lib.ListN.{length, set, take, getD, length-append}
 use lib.Seq.{sets, set-out, length-sets, take-suc}
-use lib.Signed.{ltZ}
-use mir.Syntax.{w16, w64}
-use mir.Val.{SFits, toZ, ofZ}
+use mir.Syntax.{w16}
+use mir.Val.{SFits}
 use borrow.Author.Tests.{ltb-false, lt-ltb, le-ltb}
 use Rattle.num.specs.Integers.{down}
-use Rattle.num.proofs.Integers.{fit-up, fit-down, one-zero, z-eq, z-sub, back, ltZ-true, ltZ-false}
+use Rattle.num.proofs.Integers.{fit-up, fit-down}
 use Rattle.decimal.specs.Written.{digitsIn, decimal, render, Put, each}
 
 enough : (f g n : ℕ) → n < f → n < g → digitsIn f n ≡ digitsIn g n

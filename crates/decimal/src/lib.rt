@@ -1,6 +1,5 @@
 // Decimal text: plain decimal without leading zeros, a minus sign only before a negative number.
 ghost use mathlib.Core.Path.{_≡_};
-ghost use Prim.Native.Nat.{ℕ, _+_, _<_, _≤_};
 ghost use mathlib.Core.List.{[], _∷_};
 ghost use lib.IntN.{natAbs};
 ghost use lib.ListN.{length};

@@ -21,7 +21,6 @@ use Rattle.voice.specs.Streaming.{Lent, lent, streamTicksAt}
 use Rattle.voice.specs.declared.Channel.{Channel}
 use Rattle.voice.specs.declared.Kind.{Kind}
 use Rattle.voice.specs.declared.Kind.the-variants.{Silent, Oscillator, Sqv4, FifoDac}
-use Rattle.voice.specs.declared.StreamSound.{StreamSound}
 use Rattle.voices.specs.Core.{channelAt, setChannel, setFragments}
 use Rattle.voices.specs.declared.Core.{Core}
 

@@ -7,7 +7,6 @@ use lib.ListN.{length}
 use lib.IntN.{ℤ, pos}
 use Rattle.version.specs.declared.SguVersion.{SguVersion}
 use Rattle.ticks.specs.Mix.{silence}
-use Rattle.ticks.specs.declared.Sides.{Sides}
 use Rattle.voices.specs.Accepted.{acceptsCore}
 use Rattle.voices.specs.declared.Core.{Core}
 use Rattle.frames.specs.declared.Turned.{Turned}

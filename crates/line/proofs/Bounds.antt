@@ -1,8 +1,8 @@
 -- What is read is in its field's range. Assumes nothing.
-use mathlib.Core.Path.{_≡_, refl, sym, ap, _∙_}
+use mathlib.Core.Path.{_≡_, refl, sym, _∙_}
 use mathlib.Core.Bool.{Bool, true, false}
-use mathlib.Core.List.{List, [], _∷_}
-use Prim.Native.Nat.{ℕ, zero, suc, _+_, _≤_, _<_}
+use mathlib.Core.List.{List}
+use Prim.Native.Nat.{ℕ, _+_, _≤_}
 use native.Mathlib.Omega.{arith}
 use lib.Dec.{leb, eqb}
 use lib.IntN.{ℤ, pos, negsuc}
@@ -18,12 +18,11 @@ use Rattle.decimal.specs.declared.TakenNatural.{TakenNatural}
 use Rattle.decimal.specs.declared.TakenNatural.the-variants.{Natural, NoNatural}
 use Rattle.decimal.specs.declared.TakenNumber.{TakenNumber}
 use Rattle.decimal.specs.declared.TakenNumber.the-variants.{Number, NoNumber}
-use Rattle.line.specs.Table.{isSample, mostOf, mosts}
+use Rattle.line.specs.Table.{isSample, mostOf}
 use Rattle.line.specs.Reading.{naturalOf, sampleOf16, fieldAt, partAt}
-use Rattle.line.specs.declared.Part.{Part}
 use Rattle.line.specs.declared.Part.the-variants.{At, Malformed}
 use Rattle.line.proofs.Ranges.{other-sample, most-state, most-sample, most-count}
-use Rattle.line.proofs.Taking.{field-sample, field-natural, part-first, part-next, part-missing, part-before}
+use Rattle.line.proofs.Taking.{field-sample, field-natural}
 
 -- a malformed field is no number
 pub other : {A : Type 0} (field n next : ℕ) → Malformed field ≡ At n next → A

@@ -16,8 +16,8 @@ use borrow.Author.Tests.{eq-eqb, ne-eqb, le-leb, lt-leb}
 use Rattle.num.proofs.Choice.{cond-by}
 use Rattle.decimal.proofs.Writing.{sets-append}
 use Rattle.decimal.specs.Read.{naturalAt, numberAt}
-use Rattle.decimal.specs.declared.TakenNatural.the-variants.{Natural, NoNatural}
-use Rattle.decimal.specs.declared.TakenNumber.the-variants.{Number, NoNumber}
+use Rattle.decimal.specs.declared.TakenNatural.the-variants.{Natural}
+use Rattle.decimal.specs.declared.TakenNumber.the-variants.{Number}
 use Rattle.line.specs.Table.{isSample, mostOf}
 use Rattle.line.specs.Reading.{naturalOf, sampleOf16, fieldAt, endsAt, partAt, Taken, got, wrong, onto, andThen, partsAt, ReadLine, malformed, closedAt, follows, ended, queueAt, withQueue, readLine, numbersIn, partsOf, closeOf, queueFields, fieldsOf, lineNumbers}
 use Rattle.line.specs.declared.Part.{Part}

@@ -1,10 +1,9 @@
 -- A line read: its numbers, or the first field that is missing, malformed or out of range.
-use mathlib.Core.Path.{_≡_}
 use mathlib.Core.Bool.{Bool, true, cond, _&&_}
 use mathlib.Core.List.{List, [], _∷_, _++_}
 use Prim.Native.Nat.{ℕ, zero, suc, _+_}
 use lib.Dec.{eqb, leb}
-use lib.IntN.{ℤ, pos, negsuc}
+use lib.IntN.{pos, negsuc}
 use lib.ListN.{length, getD}
 use lib.Signed.{ltZ}
 use mir.Syntax.{w16}

@@ -1,9 +1,7 @@
 // A line read.
 ghost use mathlib.Core.Path.{_≡_};
-ghost use Prim.Native.Nat.{ℕ, suc, _≤_, _<_, _-_};
-ghost use lib.ListN.{length};
+ghost use Prim.Native.Nat.{_≤_, _<_, _-_};
 ghost use lib.Seq.{sets};
-ghost use Rattle.line.specs.Table.{mostOf};
 ghost use Rattle.line.specs.Reading.{naturalOf, sampleOf16, fieldAt, endsAt, partAt, partsAt, closedAt, queueAt, readLine, numbersIn, partsOf, closeOf, queueFields, fieldsOf, lineNumbers};
 use crate::Fields;
 use crate::Part;

@@ -1,6 +1,5 @@
 // A line, without its closing byte 10, taken apart.
 ghost use mathlib.Core.Path.{_≡_};
-ghost use Prim.Native.Nat.{ℕ, _≤_, _<_, _^_};
 ghost use Rattle.log.specs.Lines.{Within, oneAt, twoAt, written, writtenRam, readOf, peekOf, clockOf, versionOf, lineOf};
 use crate::Line;
 use crate::One;

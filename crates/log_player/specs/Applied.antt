@@ -1,8 +1,6 @@
 -- What a line does, and what it prints.
-use mathlib.Core.Bool.{cond}
 use mathlib.Core.List.{List, []}
 use Prim.Native.Nat.{ℕ, min}
-use lib.Dec.{eqb}
 use lib.IntN.{ℤ, pos}
 use lib.ListN.{length, replicate}
 use Rattle.version.specs.Versions.{versionOf}

@@ -5,7 +5,7 @@ use mathlib.Core.Bool.{false}
 use mathlib.Core.List.{List, [], _∷_, _++_, append-assoc}
 use Prim.Native.Nat.{ℕ}
 use lib.Dec.{eqb}
-use lib.IntN.{ℤ, pos}
+use lib.IntN.{pos}
 use lib.ListN.{getD, replicate}
 use Rattle.log.specs.Lines.{lineOf}
 use Rattle.plain_chip.specs.Lists.{Every}
@@ -15,8 +15,7 @@ use Rattle.log_player.specs.Applied.{after, printed}
 use Rattle.log_player.specs.Logs.{malformed}
 use Rattle.log_state.specs.Finding.{soundLine}
 use Rattle.log_state.specs.Lines.{stateLine, stateLines, stateText}
-use Rattle.log_state.specs.Loads.{readLines, skipped}
-use Rattle.log_state.specs.Loads as load
+use Rattle.log_state.specs.Loads.{readLines}
 use Rattle.log_state.proofs.Stated.{no-sound}
 use Rattle.log_state.proofs.Heard.{Skipped, skip-none, skip-both, skip-choice, printed-skipped, all-skipped}
 use Rattle.log_resume.specs.Cuts.{soundsOf, WellFormed, half, played, loaded, Fed}

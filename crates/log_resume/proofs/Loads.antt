@@ -1,6 +1,6 @@
 -- A state that is written, and read into a fresh player, line by line, is the one from which a cut log goes on. Assumes nothing.
 use mathlib.Core.Path.{_≡_, refl, sym, ap, ap₂, _∙_}
-use mathlib.Core.List.{List, [], _∷_, _++_, map, append-assoc}
+use mathlib.Core.List.{List, _++_, map, append-assoc}
 use Prim.Native.Nat.{ℕ, zero, suc, _+_, _≤_, _<_}
 use native.Mathlib.Omega.{arith}
 use lib.IntN.{ℤ, pos}
@@ -19,7 +19,6 @@ use Rattle.chip_slots.specs.Whole.{row, slotAt}
 use Rattle.chip_slots.proofs.Frames.{ok-at}
 use Rattle.call_lists.specs.Runs.{after}
 use Rattle.call_lists.specs.Texts as texts
-use Rattle.call_lists.specs.Texts.{VoiceRead}
 use Rattle.call_lists.specs.Calls as list
 use Rattle.session_texts.specs.Session.{voiceRead}
 use Rattle.session_texts.proofs.Read.{session-is-ok}

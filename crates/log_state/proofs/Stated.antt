@@ -4,12 +4,11 @@ use mathlib.Core.Bool.{Bool, true, false, cond}
 use mathlib.Core.List.{List, [], _∷_, _++_, append-assoc, append-nil}
 use Prim.Native.Nat.{ℕ, zero, suc, _+_, _-_, _/_, _%_, _≤_, _<_}
 use native.Mathlib.Omega.{arith}
-use lib.Dec.{eqb, leb, ltb}
+use lib.Dec.{eqb, ltb}
 use lib.IntN.{ℤ, pos, negsuc}
 use lib.ListN.{length, take, drop, getD, length-append}
 use lib.Seq.{sets, take-append-seam, drop-append-seam}
-use borrow.Author.Tests.{eq-eqb, ne-eqb, le-leb, lt-leb, eqb-true, eqb-false}
-use Rattle.num.proofs.Choice.{cond-by}
+use borrow.Author.Tests.{eq-eqb, ne-eqb, le-leb, lt-leb}
 use Rattle.decimal.specs.Written.{digitsIn, decimal, render}
 use Rattle.line.specs.Table.{isSample, sampleOf}
 use Rattle.line.specs.Text.{fieldText, partText, partsText, lineText, writtenOf, putOf}
@@ -25,7 +24,7 @@ use Rattle.session.specs.Heads.{writeHeadAnswer, writeHeadText, readHeadCalled}
 use Rattle.session.specs.Voices.{lineOf, writeVoiceAnswer, writeVoiceText, readVoiceCalled, readVoiceQueues}
 use Rattle.log_player.specs.declared.Player.{Player}
 use Rattle.log_player.specs.Steps.{firstLine}
-use Rattle.log_state.specs.declared.Found.the-variants.{Line, Sound, Open}
+use Rattle.log_state.specs.declared.Found.the-variants.{Line}
 use Rattle.log_state.specs.Lines.{stateLine, putLineAnswer, putLineText, taken, takeLine, takeLineQueues}
 use Rattle.log_state.specs.Loads.{frontLine, behindLine, goesOn, readLines}
 use Rattle.log_state.specs.Finding.{soundLine, foundAt}

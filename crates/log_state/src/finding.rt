@@ -1,6 +1,6 @@
 // The lines of a state in an input, and those that a player printed before it.
 ghost use mathlib.Core.Path.{_≡_};
-ghost use lib.ListN.{length, drop};
+ghost use lib.ListN.{drop};
 ghost use Rattle.log_state.specs.Finding.{soundLine, foundAt};
 use crate::Found;
 

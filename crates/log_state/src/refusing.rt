@@ -1,5 +1,4 @@
 // Why a state is not read: `bad`, document 01's number and its value, each behind a comma.
-ghost use mathlib.Core.Path.{_≡_};
 ghost use mathlib.Core.List.{[], _∷_};
 ghost use Rattle.decimal.specs.Written.{Put};
 ghost use Rattle.session.specs.Answers.{numbersOf};

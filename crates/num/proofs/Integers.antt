@@ -2,16 +2,16 @@
 -- Each law is a fact of natural numbers, to be put into omega's list. Assumes nothing.
 use mathlib.Core.Path.{_≡_, refl, sym, ap, _∙_, subst}
 use mathlib.Core.Bool.{Bool, true, false, not, cond}
-use Prim.Native.Nat.{ℕ, zero, suc, _+_, _-_, _*_, _/_, _%_, _^_, _≤_, _<_, min}
+use Prim.Native.Nat.{ℕ, zero, suc, _+_, _-_, _*_, _/_, _^_, _≤_, _<_, min}
 use native.Mathlib.Nat as N
 use native.Mathlib.Omega.{arith}
-use lib.Dec.{T, ltb, leb, ltb→lt, nltb→le}
+use lib.Dec.{T, ltb, ltb→lt, nltb→le}
 use lib.IntN.{ℤ, pos, negsuc, negℤ, natAbs, subℕ, _+ℤ_, _-ℤ_, _*ℤ_}
 use lib.Signed.{mag, ltZ, leZ, nonNeg, quotZ, shrZ}
-use borrow.Author.Tests.{ltb-true, ltb-false, leb-true, leb-false, lt-ltb, le-ltb, le-leb, lt-leb}
-use mir.Syntax.{Width, w8, w16, w32, w64}
-use mir.Val.{SFits, Fits, hbits, bits, toZ, ofZ}
-use mir.Facts.{toZ-ofZ, toZ-pos}
+use borrow.Author.Tests.{ltb-true, ltb-false, leb-true, leb-false, lt-ltb, le-ltb}
+use mir.Syntax.{Width}
+use mir.Val.{SFits, hbits, bits, toZ, ofZ}
+use mir.Facts.{toZ-ofZ}
 use Rattle.num.specs.Integers.{up, down}
 
 -- one of the two is 0

@@ -1,11 +1,10 @@
 -- Parts of lists that are clipped to the list; what holds at every index. Assumes nothing.
-use mathlib.Core.Path.{_≡_, refl, sym, ap, _∙_}
-use mathlib.Core.Bool.{Bool, true, false}
+use mathlib.Core.Path.{_≡_, sym, ap, _∙_}
 use mathlib.Core.List.{List, [], _∷_}
-use Prim.Native.Nat.{ℕ, zero, suc, _+_, _-_, _≤_, _<_, min}
+use Prim.Native.Nat.{ℕ, zero, suc, _-_, _≤_, min}
 use native.Mathlib.Omega.{arith}
 use native.Mathlib.Decide.{decLe}
-use lib.ListN.{length, getD, set, take, drop, length-take, length-drop, drop-of-length-le}
+use lib.ListN.{length, getD, set, take, drop, length-drop, drop-of-length-le}
 use lib.Seq.{take-all, take-nil}
 use Rattle.num.specs.Lists.{part}
 

@@ -1,9 +1,8 @@
 // Small total helpers on numbers and slices that more than one crate needs.
 ghost use mathlib.Core.Path.{_≡_};
-ghost use mathlib.Core.Bool.{cond};
-ghost use Prim.Native.Nat.{ℕ, _+_, _-_, _<_, _≤_, _^_, min};
-ghost use lib.IntN.{ℤ, pos, negℤ, natAbs};
-ghost use lib.ListN.{length, getD, take, drop};
+ghost use Prim.Native.Nat.{_-_, _<_, _^_, min};
+ghost use lib.IntN.{natAbs};
+ghost use lib.ListN.{getD, drop};
 ghost use mir.Syntax.{w16};
 ghost use mir.Val.{toZ, ofZ};
 ghost use Rattle.num.specs.Integers.{clamp16 as clamped16, signed};

@@ -1,16 +1,15 @@
 -- Two chips with the same session fields and the same RAM answer alike, and stay so. Assumes nothing.
 use mathlib.Core.Path.{_≡_, sym, ap, _∙_}
-use Rattle.plain_chip.specs.Models.{slots, plains}
+use Rattle.plain_chip.specs.Models.{plains}
 use Rattle.plain_chip.specs.Chips.{Plain, plain}
 use Rattle.plain_chip.proofs.Slots.{slots-plain}
 use Rattle.call_lists.specs.Calls.{Call, run}
-use Rattle.call_lists.specs.Calls as list
 use Rattle.call_lists.specs.Seen.{FitCall}
 use Rattle.call_lists.proofs.Steps.{step}
 use Rattle.call_lists.proofs.Resumes.{resumed-plain}
 use Rattle.session_texts.specs.Session.{session}
 use Rattle.session_texts.proofs.Read.{session-is-ok}
-use Rattle.call_ties.specs.Ties.{Machine, Heard}
+use Rattle.call_ties.specs.Ties.{Machine}
 use Rattle.call_ties.specs.Code.{code}
 use Rattle.call_ties.proofs.Every.{tied}
 use Rattle.resume.specs.Stops.{seen, resumed, Second, heardOf, worldOf}

@@ -1,7 +1,6 @@
 -- The session texts of two chips are equal exactly when their versions and their session fields are. Assumes nothing.
 use mathlib.Core.Path.{_≡_, sym, ap, _∙_, subst}
 use mathlib.Core.List.{List}
-use Prim.Native.Nat.{ℕ}
 use native.Mathlib.Omega.{arith}
 use lib.ListN.{length, length-map}
 use Rattle.version.specs.declared.SguVersion.{SguVersion}

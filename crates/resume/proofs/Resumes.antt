@@ -1,9 +1,8 @@
 -- DEMAND 3: a chip stopped anywhere in a list of calls and resumed from its session text, and the plain chip. Assumes nothing.
-use mathlib.Core.Path.{_≡_, refl, sym, ap, ap₂, _∙_, subst}
+use mathlib.Core.Path.{_≡_, sym, ap, _∙_, subst}
 use mathlib.Core.Bool.{true, cond}
-use mathlib.Core.List.{List, [], _∷_, map}
-use Prim.Native.Nat.{ℕ, _<_}
-use native.Mathlib.Omega.{arith}
+use mathlib.Core.List.{List, map}
+use Prim.Native.Nat.{ℕ}
 use lib.IntN.{ℤ}
 use lib.ListN.{length, replicate}
 use Rattle.tone.specs.Pcm.{isRamLength}
@@ -17,17 +16,14 @@ use Rattle.s3w2.specs.Refusals.{refusal}
 use Rattle.plain_chip.specs.Lists.{Every}
 use Rattle.plain_chip.specs.Models.{slots, plains}
 use Rattle.plain_chip.specs.Chips.{World, Plain, plain, freshPlain}
-use Rattle.plain_chip.specs.Good.{WorldOk}
-use Rattle.call_lists.specs.Runs.{Ran, after, trace}
-use Rattle.call_lists.specs.Calls as list
-use Rattle.call_lists.specs.Calls.{Call, readHead, readVoice, run}
+use Rattle.call_lists.specs.Runs.{after}
+use Rattle.call_lists.specs.Calls.{Call, run}
 use Rattle.call_lists.specs.Seen as calls
-use Rattle.call_lists.specs.Seen.{Seen, FitCall, Accepted}
+use Rattle.call_lists.specs.Seen.{FitCall}
 use Rattle.call_lists.proofs.Resumes as lists
 use Rattle.session_texts.specs.Session.{session}
 use Rattle.session_texts.proofs.Read.{session-is-ok}
 use Rattle.call_ties.specs.Ties.{Machine}
-use Rattle.call_ties.specs.Code.{code}
 use Rattle.call_ties.proofs.Made.{made-held, made-plain}
 use Rattle.resume.specs.Stops.{seen, resumed, made, Second, ofPlain, ofVoices, told, worldOf, stopped, plainStart, plainStopped, Resumes}
 use Rattle.resume.proofs.Steps.{HeldMachine, held-after, world-after, chip-voices}

@@ -1,15 +1,13 @@
 -- A second chip in any accepted state that reads a session. Assumes nothing.
-use mathlib.Core.Path.{_≡_, refl, sym, ap, _∙_, subst}
+use mathlib.Core.Path.{_≡_, sym, ap, _∙_, subst}
 use mathlib.Core.Bool.{Bool, true, cond}
 use mathlib.Core.List.{List, map}
 use Prim.Native.Nat.{ℕ}
-use lib.IntN.{ℤ}
 use lib.ListN.{length}
 use Rattle.tone.specs.Pcm.{isRamLength}
 use Rattle.version.specs.declared.SguVersion.{SguVersion}
 use Rattle.voice_line.specs.Head.{headText}
 use Rattle.voice_line.specs.Head as heads
-use Rattle.voice_line.specs.declared.HeadLine.{HeadLine}
 use Rattle.voice_line.proofs.Heads.{head-back}
 use Rattle.voices.specs.Core.{setCoreVersion}
 use Rattle.voices.proofs.Voices.{version-changed}
@@ -17,7 +15,7 @@ use Rattle.s3w2.specs.declared.Chip.{Chip}
 use Rattle.s3w2.specs.declared.Answer.{Answer}
 use Rattle.s3w2.specs.declared.Answer.the-variants.{Done}
 use Rattle.s3w2.specs.Answers.{answered, called}
-use Rattle.s3w2.specs.Refusals.{acceptsChip, ownRefusal}
+use Rattle.s3w2.specs.Refusals.{acceptsChip}
 use Rattle.s3w2.specs.Fresh.{setVersionCalled}
 use Rattle.session.specs.declared.LineCalled.{LineCalled}
 use Rattle.session.specs.declared.LineAnswer.the-variants as lines
@@ -35,7 +33,7 @@ use Rattle.call_lists.specs.Seen.{Accepted}
 use Rattle.call_lists.proofs.Resumes.{fit-lines, head-read, headed-good}
 use Rattle.session_texts.specs.Session.{session}
 use Rattle.session_texts.proofs.Read.{session-is-ok}
-use Rattle.call_ties.specs.Ties.{Machine, Held, Tied}
+use Rattle.call_ties.specs.Ties.{Machine}
 use Rattle.call_ties.specs.Code.{code}
 use Rattle.call_ties.proofs.Accepting.{accepts-largest, state-none}
 use Rattle.call_ties.proofs.Made.{accepted-world}

@@ -1,5 +1,5 @@
 -- A list of calls of the code is the list's run. Assumes nothing.
-use mathlib.Core.Path.{_≡_, refl, sym, ap, ap₂, _∙_}
+use mathlib.Core.Path.{_≡_, refl, ap, ap₂, _∙_}
 use mathlib.Core.List.{List, [], _∷_, map}
 use Prim.Native.Nat.{ℕ, zero, suc, _+_, _<_}
 use native.Mathlib.Omega.{arith}
@@ -11,7 +11,7 @@ use Rattle.plain_chip.specs.Models.{slots}
 use Rattle.plain_chip.specs.Chips.{World}
 use Rattle.chip_slots.specs.Whole.{row, slotAt, slotsOf}
 use Rattle.chip_slots.proofs.Puts.{slot-at}
-use Rattle.call_lists.specs.Runs.{Ran, after}
+use Rattle.call_lists.specs.Runs.{after}
 use Rattle.call_lists.specs.Calls.{Call, run}
 use Rattle.call_lists.specs.Seen as calls
 use Rattle.call_lists.specs.Seen.{FitCall, linesFrom}

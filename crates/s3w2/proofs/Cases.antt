@@ -13,7 +13,6 @@ use Rattle.voices.specs.declared.Core.{Core}
 use Rattle.voices.specs.Writes.{withQueues, writeWavetable, afterRamWrite}
 use Rattle.voices.specs.Reads.{readWavetable}
 use Rattle.s3w2.specs.declared.Chip.{Chip}
-use Rattle.s3w2.specs.declared.Called.{Called}
 use Rattle.s3w2.specs.declared.Answer.{Answer}
 use Rattle.s3w2.specs.declared.Answer.the-variants.{Done, Byte}
 use Rattle.s3w2.specs.Answers.{isDone, answered}

@@ -5,7 +5,6 @@ use mathlib.Core.Bool.{false}
 use mathlib.Core.List.{List, [], _∷_}
 use Prim.Native.Nat.{ℕ}
 use lib.IntN.{ℤ, pos, negsuc}
-use lib.ListN.{replicate}
 use Rattle.adpcm.specs.declared.State.{State}
 use Rattle.adpcm.specs.declared.Variant.the-variants.{H, LPlus}
 use Rattle.adpcm.specs.Ima.{stepSizes, stepSize, difference}

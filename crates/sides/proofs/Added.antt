@@ -1,5 +1,5 @@
 -- Frames added to a side, one more. Assumes nothing.
-use mathlib.Core.Path.{_≡_, refl, ap, _∙_}
+use mathlib.Core.Path.{_≡_, refl}
 use mathlib.Core.List.{List}
 use Prim.Native.Nat.{ℕ, zero, suc, _+_, _*_}
 use native.Mathlib.Numerals.{add-one}

@@ -1,7 +1,6 @@
 // Frames of stems added to two sides.
 ghost use mathlib.Core.Path.{_≡_};
-ghost use Prim.Native.Nat.{_+_, _*_, _<_, _≤_};
-ghost use lib.IntN.{natAbs};
+ghost use Prim.Native.Nat.{_+_, _≤_};
 ghost use lib.ListN.{length};
 ghost use Rattle.sides.specs.Sides.{sideSum, framesIn, saturating, wrapping, addedTo, Room};
 

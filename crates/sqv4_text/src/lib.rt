@@ -1,7 +1,6 @@
 // The text that tells of an SQV4 file: one line for the check's answer, then a line for each interleaved sample.
 ghost use mathlib.Core.Path.{_≡_};
-ghost use Prim.Native.Nat.{ℕ, _+_, _<_, _≤_};
-ghost use mathlib.Core.Bool.{Bool, true, false};
+ghost use Prim.Native.Nat.{_<_, _≤_};
 ghost use mathlib.Core.List.{[], _∷_};
 ghost use lib.ListN.{length};
 ghost use Rattle.decimal.specs.Written.{Put};

@@ -1,7 +1,7 @@
 -- A stream voice's tick, over how a sample of the stream is read: with the cache, and without one.
 use mathlib.Core.Bool.{Bool, false, cond}
 use mathlib.Core.List.{List, []}
-use Prim.Native.Nat.{ℕ, _+_, _-_, _*_, _/_, _%_}
+use Prim.Native.Nat.{ℕ, _+_, _*_, _/_, _%_}
 use lib.Dec.{ltb, eqb}
 use lib.ListN.{length, getD, replicate}
 use lib.IntN.{ℤ, pos}

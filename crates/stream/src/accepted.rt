@@ -1,6 +1,6 @@
 // The states in which a chip accepts a voice's cache.
 ghost use mathlib.Core.Path.{_≡_};
-ghost use Prim.Native.Nat.{_+_, _-_, _*_, _<_, _≤_};
+ghost use Prim.Native.Nat.{_+_, _*_, _<_, _≤_};
 ghost use lib.Dec.{eqb};
 ghost use Rattle.sqv4.specs.Files.{frameSamples, frameSize};
 ghost use Rattle.stream.specs.Cache.{framesOf};

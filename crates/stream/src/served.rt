@@ -1,6 +1,5 @@
 // Ticks that the cache serves.
 ghost use mathlib.Core.Path.{_≡_};
-ghost use Prim.Native.Nat.{_+_, _-_, _*_, _/_, _%_, _^_, _<_};
 ghost use Rattle.stream.specs.Window.{isSome, reachOf, windowOf, offsetIn, servesAt, placeIn, tapIn, valueIn};
 use crate::Held;
 use crate::StreamCache;

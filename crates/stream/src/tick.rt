@@ -2,7 +2,7 @@
 ghost use mathlib.Core.Path.{_≡_};
 ghost use mathlib.Core.Bool.{true, false};
 ghost use lib.IntN.{pos};
-ghost use Prim.Native.Nat.{_+_, _-_, _*_, _/_, _%_, _^_, _<_};
+ghost use Prim.Native.Nat.{_+_, _/_, _%_, _^_, _<_};
 ghost use lib.ListN.{length};
 ghost use Rattle.sqv4.specs.Files.{frameSamples};
 ghost use Rattle.stream.specs.Cache.{Plays, stock};

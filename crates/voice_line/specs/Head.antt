@@ -1,9 +1,9 @@
 -- The head of a session text.
-use mathlib.Core.Bool.{Bool, true, false, cond, _&&_}
+use mathlib.Core.Bool.{Bool, cond, _&&_}
 use mathlib.Core.List.{List, [], _∷_}
 use Prim.Native.Nat.{ℕ, _+_}
 use lib.Dec.{eqb, leb}
-use lib.ListN.{length, getD}
+use lib.ListN.{getD}
 use Rattle.decimal.specs.Read.{naturalAt}
 use Rattle.decimal.specs.declared.TakenNatural.{TakenNatural}
 use Rattle.decimal.specs.declared.TakenNatural.the-variants.{Natural, NoNatural}

@@ -1,6 +1,6 @@
 -- A voice line written, and what reading one does.
-use mathlib.Core.Bool.{Bool, cond}
-use mathlib.Core.List.{List, [], _∷_}
+use mathlib.Core.Bool.{cond}
+use mathlib.Core.List.{List, []}
 use Prim.Native.Nat.{ℕ}
 use lib.Dec.{leb}
 use lib.IntN.{ℤ}

@@ -1,11 +1,11 @@
 // A voice line written.
 ghost use mathlib.Core.Path.{_≡_};
-ghost use Prim.Native.Nat.{ℕ, _+_, _%_, _≤_, min};
+ghost use Prim.Native.Nat.{_%_, min};
 ghost use lib.IntN.{pos};
 ghost use lib.ListN.{getD};
 ghost use lib.Seq.{sets};
 ghost use Rattle.line.specs.Text.{writtenOf, putOf};
-ghost use Rattle.voice_line.specs.Numbers.{stateNumbers, tableNumbers, queueNumbers};
+ghost use Rattle.voice_line.specs.Numbers.{tableNumbers, queueNumbers};
 ghost use Rattle.voice_line.specs.Lines.{voiceText};
 use crate::states::state_numbers;
 use line::Written;

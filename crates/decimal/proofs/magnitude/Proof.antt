@@ -1,10 +1,9 @@
 use borrow.Author.Needs.{needs}
 use native.Mathlib.Omega.{arith}
 use Prim.Native.Nat.{_<_}
-use lib.IntN.{negsuc, _-ℤ_}
 use mir.Syntax.{w64}
 use Rattle.num.specs.Integers.{down}
-use Rattle.num.proofs.Integers.{back, abs-is, is-nonNeg}
+use Rattle.num.proofs.Integers.{back, is-nonNeg}
 use Rattle.num.proofs.Sizes.{below-zero, is-below, not-below, size-most, size-some, less-fits, less-is}
 use Rattle.decimal.proofs.magnitude.Statement.{statement}
 use Rattle.decimal.proofs.magnitude.Tie as tie

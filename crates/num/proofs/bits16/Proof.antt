@@ -1,11 +1,9 @@
-use borrow.Author.Needs.{needs}
 use native.Mathlib.Omega.{arith}
-use mathlib.Core.Path.{_≡_, sym}
-use mathlib.Core.Bool.{true, false}
-use Prim.Native.Nat.{ℕ, _≤_, _<_, _-_, _+_, _^_}
-use lib.IntN.{ℤ, pos, natAbs, _+ℤ_}
+use mathlib.Core.Path.{_≡_}
+use Prim.Native.Nat.{_<_, _+_}
+use lib.IntN.{ℤ, pos, _+ℤ_}
 use mir.Syntax.{w16, w32}
-use mir.Val.{SFits, ofZ}
+use mir.Val.{SFits}
 use Rattle.num.proofs.Integers.{fit, fit-up, fit-down, z-add, one-zero, back, abs-is, is-nonNeg, ltZ-true, ltZ-false, ofZ-neg, ofZ-pos}
 use Rattle.num.specs.Integers.{up, down}
 use Rattle.num.proofs.Fit.{widen16-32}

@@ -1,12 +1,12 @@
 use borrow.Author.Needs.{needs}
 use native.Mathlib.Omega.{arith}
 use mathlib.Core.Path.{_≡_}
-use Prim.Native.Nat.{ℕ, suc, _≤_, _<_, _-_, _^_}
-use lib.IntN.{ℤ, pos, negsuc, _-ℤ_}
+use Prim.Native.Nat.{ℕ, suc, _≤_, _<_, _-_}
+use lib.IntN.{pos, negsuc, _-ℤ_}
 use mir.Syntax.{w16, w32}
 use mir.Val.{SFits}
 use mir.Facts.{toZ-pos, toZ-ofZ}
-use Rattle.num.proofs.Integers.{fit, z-eq, z-sub, one-zero, toZ-high}
+use Rattle.num.proofs.Integers.{z-eq, z-sub, one-zero, toZ-high}
 use Rattle.num.proofs.signed16.Statement.{statement}
 use Rattle.num.proofs.signed16.Tie as tie
 

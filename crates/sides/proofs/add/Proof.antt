@@ -6,36 +6,26 @@ use Rattle.sides.specs.Sides.{saturating, addedTo}
 use Rattle.sides.proofs.Added.{room-left, room-right}
 use Rattle.sides.proofs.add.Statement.{statement}
 use Rattle.sides.proofs.add.Tie as tie
-use Rattle.sides.proofs.add.Reads as reads
-use Rattle.sides.proofs.add.Lts as lts
-use Rattle.sides.proofs.add_side.Reads as add-side-reads
-use Rattle.sides.proofs.frames_in.Reads as frames-in-reads
 
--- src/lib.rt:60:9
 frames-in-requires : tie.Need-frames-in-requires
 frames-in-requires c κs = search needs
 
--- src/lib.rt:61:5
 add-side-requires : tie.Need-add-side-requires
 add-side-requires c κs =
     let a = c .before .before .args in room-left (length (a .stems .now)) (length (a .left .now)) (length (a .right .now)) (a .first) (c .before .frames-in .result) (c .before .frames-in .ensures)
 
--- src/lib.rt:62:5
 add-side-requires-2 : tie.Need-add-side-requires-2
 add-side-requires-2 c κs =
     let b = c .before .before .before .before in
     let a = b .before .args in
     room-right (length (a .stems .now)) (length (a .left .now)) (length (a .right .now)) (a .first) (b .frames-in .result) (b .frames-in .ensures)
 
--- src/lib.rt:56:1
 same-length : tie.Need-same-length
 same-length c = search needs
 
--- src/lib.rt:56:1
 same-length-2 : tie.Need-same-length-2
 same-length-2 c = search needs
 
--- src/lib.rt:56:1
 returns : tie.Need-returns
 returns c =
     let b = c .before .before .before .before .before .before in

@@ -6,36 +6,26 @@ use Rattle.sides.specs.Sides.{wrapping, addedTo}
 use Rattle.sides.proofs.Added.{room-left, room-right}
 use Rattle.sides.proofs.add_i32.Statement.{statement}
 use Rattle.sides.proofs.add_i32.Tie as tie
-use Rattle.sides.proofs.add_i32.Reads as reads
-use Rattle.sides.proofs.add_i32.Lts as lts
-use Rattle.sides.proofs.add_side_i32.Reads as add-side-i32-reads
-use Rattle.sides.proofs.frames_in.Reads as frames-in-reads
 
--- src/lib.rt:69:9
 frames-in-requires : tie.Need-frames-in-requires
 frames-in-requires c κs = search needs
 
--- src/lib.rt:70:5
 add-side-i32-requires : tie.Need-add-side-i32-requires
 add-side-i32-requires c κs =
     let a = c .before .before .args in room-left (length (a .stems .now)) (length (a .left .now)) (length (a .right .now)) (a .first) (c .before .frames-in .result) (c .before .frames-in .ensures)
 
--- src/lib.rt:71:5
 add-side-i32-requires-2 : tie.Need-add-side-i32-requires-2
 add-side-i32-requires-2 c κs =
     let b = c .before .before .before .before in
     let a = b .before .args in
     room-right (length (a .stems .now)) (length (a .left .now)) (length (a .right .now)) (a .first) (b .frames-in .result) (b .frames-in .ensures)
 
--- src/lib.rt:65:1
 same-length : tie.Need-same-length
 same-length c = search needs
 
--- src/lib.rt:65:1
 same-length-2 : tie.Need-same-length-2
 same-length-2 c = search needs
 
--- src/lib.rt:65:1
 returns : tie.Need-returns
 returns c =
     let b = c .before .before .before .before .before .before in

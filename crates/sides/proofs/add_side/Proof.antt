@@ -1,6 +1,6 @@
 use borrow.Author.Needs.{needs, sfits-of}
-use mathlib.Core.Path.{_≡_, refl, ap, _∙_}
-use Prim.Native.Nat.{ℕ, _+_, _-_, _*_, _≤_, _<_}
+use mathlib.Core.Path.{_≡_, ap, _∙_}
+use Prim.Native.Nat.{ℕ, _+_, _-_, _≤_}
 use native.Mathlib.Omega.{arith}
 use lib.IntN.{pos}
 use lib.ListN.{length, getD, length-set}
@@ -10,11 +10,6 @@ use Rattle.sides.specs.Sides.{saturating, addedTo, Room}
 use Rattle.sides.proofs.Added.{added-next, saturating-is}
 use Rattle.sides.proofs.add_side.Statement.{statement}
 use Rattle.sides.proofs.add_side.Tie as tie
-use Rattle.sides.proofs.add_side.Reads as reads
-use Rattle.sides.proofs.add_side.Lts as lts
-use Rattle.sides.proofs.side_of.Reads as side-of-reads
-use Rattle.tone.proofs.saturate_output.Reads as saturate-output-reads
-use Rattle.tone.proofs.saturating_add.Reads as saturating-add-reads
 
 abbrev Inv-loop : tie.InvT-loop
 Inv-loop stems hand side₀ first count i₀ side i =
@@ -23,60 +18,46 @@ Inv-loop stems hand side₀ first count i₀ side i =
 abbrev μ-loop : tie.MeasureT-loop
 μ-loop stems hand side₀ first count i₀ side i = count - i
 
--- src/lib.rt:36:5
 loop-holds : tie.Need-loop-holds Inv-loop μ-loop
 unfolding addedTo
 loop-holds c = search needs
 
--- src/lib.rt:37:18
 add-at : tie.Need-add-at Inv-loop μ-loop
 add-at c = search needs
 
--- src/lib.rt:38:56
 mul-side-of : tie.Need-mul-side-of Inv-loop μ-loop
 mul-side-of c = search needs
 
--- src/lib.rt:38:56
 add-side-of : tie.Need-add-side-of Inv-loop μ-loop
 add-side-of c = search needs
 
--- src/lib.rt:38:41
 side-of-requires : tie.Need-side-of-requires Inv-loop μ-loop
 side-of-requires c κs = search needs
 
--- src/lib.rt:38:13
 saturate-output-requires : tie.Need-saturate-output-requires Inv-loop μ-loop
 saturate-output-requires c κs = search needs
 
--- src/lib.rt:39:41
 mul-saturating-add : tie.Need-mul-saturating-add Inv-loop μ-loop
 mul-saturating-add c = search needs
 
--- src/lib.rt:39:41
 slice-copy-out-saturating-add : tie.Need-slice-copy-out-saturating-add Inv-loop μ-loop
 slice-copy-out-saturating-add c = search needs
 
--- src/lib.rt:39:20
 saturating-add-requires : tie.Need-saturating-add-requires Inv-loop μ-loop
 saturating-add-requires c κs = search needs
 
--- src/lib.rt:39:9
 mul-t12 : tie.Need-mul-t12 Inv-loop μ-loop
 mul-t12 c = search needs
 
--- src/lib.rt:39:9
 slice-set-from-side : tie.Need-slice-set-from-side Inv-loop μ-loop
 slice-set-from-side c = search needs
 
--- src/lib.rt:36:9
 add-i : tie.Need-add-i Inv-loop μ-loop
 add-i c = search needs
 
--- src/lib.rt:36:5
 loop-less : tie.Need-loop-less Inv-loop μ-loop
 loop-less c = search needs
 
--- src/lib.rt:36:5
 loop-again : tie.Need-loop-again Inv-loop μ-loop
 loop-again c =
     let l = c .before .before .before .before .before .loop in
@@ -85,11 +66,9 @@ loop-again c =
     let y = saturating-is (getD (l .side) (a .first + l .i) (pos 0)) (s .result) (c .before .before .saturate-output .result) (c .saturating-add .result) (sfits-of (c .before .saturating-add-arg .given)) (sfits-of (s .ok)) (sfits-of (c .before .before .saturate-output .ok)) (sfits-of (c .saturating-add .ok)) (c .before .before .saturate-output .ensures) (c .saturating-add .ensures) in
     (omega arith, added-next saturating (a .stems .now) (a .hand) (a .first) (a .side .now) (l .i) (l .side) (s .result) (toZ w16 (ofZ w16 (c .saturating-add .result))) (l .inv .1) (s .ensures) y, simp length-set (l .inv .2), l .inv .3)
 
--- src/lib.rt:32:1
 same-length : tie.Need-same-length Inv-loop μ-loop
 same-length c = search needs
 
--- src/lib.rt:32:1
 returns : tie.Need-returns Inv-loop μ-loop
 returns c =
     let l = c .before .loop in

@@ -1,6 +1,6 @@
 use borrow.Author.Needs.{needs, sfits-of}
-use mathlib.Core.Path.{_≡_, refl, ap, _∙_}
-use Prim.Native.Nat.{ℕ, _+_, _-_, _*_, _≤_, _<_}
+use mathlib.Core.Path.{_≡_, ap, _∙_}
+use Prim.Native.Nat.{ℕ, _+_, _-_, _≤_}
 use native.Mathlib.Omega.{arith}
 use lib.IntN.{pos}
 use lib.ListN.{length, getD, length-set}
@@ -10,10 +10,6 @@ use Rattle.sides.specs.Sides.{wrapping, addedTo, Room}
 use Rattle.sides.proofs.Added.{added-next, wrapping-is}
 use Rattle.sides.proofs.add_side_i32.Statement.{statement}
 use Rattle.sides.proofs.add_side_i32.Tie as tie
-use Rattle.sides.proofs.add_side_i32.Reads as reads
-use Rattle.sides.proofs.add_side_i32.Lts as lts
-use Rattle.sides.proofs.side_of.Reads as side-of-reads
-use Rattle.tone.proofs.wrapping_add.Reads as wrapping-add-reads
 
 abbrev Inv-loop : tie.InvT-loop
 Inv-loop stems hand side₀ first count i₀ side i =
@@ -22,56 +18,43 @@ Inv-loop stems hand side₀ first count i₀ side i =
 abbrev μ-loop : tie.MeasureT-loop
 μ-loop stems hand side₀ first count i₀ side i = count - i
 
--- src/lib.rt:48:5
 loop-holds : tie.Need-loop-holds Inv-loop μ-loop
 unfolding addedTo
 loop-holds c = search needs
 
--- src/lib.rt:49:18
 add-at : tie.Need-add-at Inv-loop μ-loop
 add-at c = search needs
 
--- src/lib.rt:50:34
 mul-side-of : tie.Need-mul-side-of Inv-loop μ-loop
 mul-side-of c = search needs
 
--- src/lib.rt:50:34
 add-side-of : tie.Need-add-side-of Inv-loop μ-loop
 add-side-of c = search needs
 
--- src/lib.rt:50:13
 side-of-requires : tie.Need-side-of-requires Inv-loop μ-loop
 side-of-requires c κs = search needs
 
--- src/lib.rt:51:39
 mul-wrapping-add : tie.Need-mul-wrapping-add Inv-loop μ-loop
 mul-wrapping-add c = search needs
 
--- src/lib.rt:51:39
 slice-copy-out-wrapping-add : tie.Need-slice-copy-out-wrapping-add Inv-loop μ-loop
 slice-copy-out-wrapping-add c = search needs
 
--- src/lib.rt:51:20
 wrapping-add-requires : tie.Need-wrapping-add-requires Inv-loop μ-loop
 wrapping-add-requires c κs = search needs
 
--- src/lib.rt:51:9
 mul-t11 : tie.Need-mul-t11 Inv-loop μ-loop
 mul-t11 c = search needs
 
--- src/lib.rt:51:9
 slice-set-from-side : tie.Need-slice-set-from-side Inv-loop μ-loop
 slice-set-from-side c = search needs
 
--- src/lib.rt:48:9
 add-i : tie.Need-add-i Inv-loop μ-loop
 add-i c = search needs
 
--- src/lib.rt:48:5
 loop-less : tie.Need-loop-less Inv-loop μ-loop
 loop-less c = search needs
 
--- src/lib.rt:48:5
 loop-again : tie.Need-loop-again Inv-loop μ-loop
 loop-again c =
     let l = c .before .before .before .before .loop in
@@ -80,11 +63,9 @@ loop-again c =
     let y = wrapping-is (getD (l .side) (a .first + l .i) (pos 0)) (s .result) (c .wrapping-add .result) (sfits-of (c .before .wrapping-add-arg .given)) (sfits-of (s .ok)) (sfits-of (c .wrapping-add .ok)) (c .wrapping-add .ensures) in
     (omega arith, added-next wrapping (a .stems .now) (a .hand) (a .first) (a .side .now) (l .i) (l .side) (s .result) (toZ w32 (ofZ w32 (c .wrapping-add .result))) (l .inv .1) (s .ensures) y, simp length-set (l .inv .2), l .inv .3)
 
--- src/lib.rt:44:1
 same-length : tie.Need-same-length Inv-loop μ-loop
 same-length c = search needs
 
--- src/lib.rt:44:1
 returns : tie.Need-returns Inv-loop μ-loop
 returns c =
     let l = c .before .loop in

@@ -2,24 +2,17 @@ use borrow.Author.Needs.{needs}
 use Rattle.sides.specs.Sides.{framesIn}
 use Rattle.sides.proofs.frames_in.Statement.{statement}
 use Rattle.sides.proofs.frames_in.Tie as tie
-use Rattle.sides.proofs.frames_in.Reads as reads
-use Rattle.sides.proofs.frames_in.Lts as lts
-use Rattle.num.proofs.least.Reads as least-reads
 
--- src/lib.rt:24:9
 least-requires : tie.Need-least-requires
 least-requires c κs = search needs
 
--- src/lib.rt:26:9
 returns : tie.Need-returns
 unfolding framesIn
 returns c = search needs
 
--- src/lib.rt:28:5
 least-requires-2 : tie.Need-least-requires-2
 least-requires-2 c κs = search needs
 
--- src/lib.rt:21:1
 returns-2 : tie.Need-returns-2
 unfolding framesIn
 returns-2 c = search needs

@@ -1,6 +1,6 @@
 use borrow.Author.Needs.{needs, sfits-of}
 use mathlib.Core.Path.{_≡_, refl, ap, _∙_}
-use Prim.Native.Nat.{ℕ, _+_, _-_, _*_, _≤_, _<_}
+use Prim.Native.Nat.{ℕ, _-_, _*_, _≤_}
 use native.Mathlib.Omega.{arith}
 use lib.IntN.{natAbs}
 use mir.Syntax.{w32}
@@ -12,8 +12,6 @@ use Rattle.sides.proofs.Sums.{sum-fits, sum-next, next-small}
 use Rattle.sides.specs.Sides.{sideSum}
 use Rattle.sides.proofs.side_of.Statement.{statement}
 use Rattle.sides.proofs.side_of.Tie as tie
-use Rattle.sides.proofs.side_of.Reads as reads
-use Rattle.sides.proofs.side_of.Lts as lts
 
 abbrev Inv-loop : tie.InvT-loop
 Inv-loop stems from sum₀ ch₀ sum ch = (ch ≤ 8) × (toZ w32 sum ≡ sideSum ch stems from) × (natAbs (toZ w32 sum) ≤ 32768 * ch)
@@ -21,48 +19,37 @@ Inv-loop stems from sum₀ ch₀ sum ch = (ch ≤ 8) × (toZ w32 sum ≡ sideSum
 abbrev μ-loop : tie.MeasureT-loop
 μ-loop stems from sum₀ ch₀ sum ch = 8 - ch
 
--- src/lib.rt:14:5
 loop-holds : tie.Need-loop-holds Inv-loop μ-loop
 unfolding sideSum
 loop-holds c = (omega arith, refl, omega arith)
 
--- src/lib.rt:15:35
 mul-sum : tie.Need-mul-sum Inv-loop μ-loop
 mul-sum c = search needs
 
--- src/lib.rt:15:28
 add-sum : tie.Need-add-sum Inv-loop μ-loop
 add-sum c = search needs
 
--- src/lib.rt:15:22
 mul-sum-2 : tie.Need-mul-sum-2 Inv-loop μ-loop
 mul-sum-2 c = search needs
 
--- src/lib.rt:15:22
 shared-slice-copy-out-sum : tie.Need-shared-slice-copy-out-sum Inv-loop μ-loop
 shared-slice-copy-out-sum c = search needs
 
--- src/lib.rt:15:22
 cast-sum : tie.Need-cast-sum Inv-loop μ-loop
 cast-sum c = rw (back w16 _ (sfits-of (c .sum .given))) (widen16-32 (sfits-of (c .sum .given)))
 
--- src/lib.rt:15:15
 add-sum-2 : tie.Need-add-sum-2 Inv-loop μ-loop
 add-sum-2 c = sum-fits (c .before .before .before .args .stems .now) (c .before .before .before .args .from) (c .before .before .loop .ch) (c .before .before .loop .sum) (sfits-of (c .sum .given)) (c .before .loop-test .taken) (c .before .before .loop .inv .2)
 
--- src/lib.rt:14:9
 add-ch : tie.Need-add-ch Inv-loop μ-loop
 add-ch c = search needs
 
--- src/lib.rt:14:5
 loop-less : tie.Need-loop-less Inv-loop μ-loop
 loop-less c = omega arith
 
--- src/lib.rt:14:5
 loop-again : tie.Need-loop-again Inv-loop μ-loop
 loop-again c = (omega arith, sum-next (c .before .before .before .args .stems .now) (c .before .before .before .args .from) (c .before .before .loop .ch) (c .before .before .loop .sum) (sfits-of (c .sum .given)) (c .before .loop-test .taken) (c .before .before .loop .inv .2) (c .before .before .loop .inv .1), next-small (c .before .before .before .args .stems .now) (c .before .before .before .args .from) (c .before .before .loop .ch) (c .before .before .loop .sum) (sfits-of (c .sum .given)) (c .before .loop-test .taken) (c .before .before .loop .inv .2))
 
--- src/lib.rt:9:1
 returns : tie.Need-returns Inv-loop μ-loop
 returns c =
     let l = c .before .loop in

@@ -1,5 +1,5 @@
-use mathlib.Core.Path.{_≡_, sym, ap, _∙_}
-use Prim.Native.Nat.{_+_, _≤_}
+use mathlib.Core.Path.{_≡_, sym, _∙_}
+use Prim.Native.Nat.{_≤_}
 use native.Mathlib.Omega.{arith}
 use Rattle.line.specs.Reading.{partAt}
 use Rattle.line.specs.declared.Part.the-variants.{At}

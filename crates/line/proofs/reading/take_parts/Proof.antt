@@ -1,11 +1,9 @@
 use borrow.Author.Needs.{needs}
-use mathlib.Core.Path.{_≡_, refl, sym, ap, _∙_}
+use mathlib.Core.Path.{refl, sym, ap, _∙_}
 use Prim.Native.Nat.{_-_}
-use native.Mathlib.Omega.{arith}
 use lib.ListN.{length}
-use lib.Seq.{sets, length-sets}
-use Rattle.line.specs.Reading.{partsAt, partsOf, numbersIn}
-use Rattle.line.specs.declared.Parts.the-variants.{Upto, Malformed}
+use lib.Seq.{length-sets}
+use Rattle.line.specs.Reading.{partsAt, numbersIn}
 use Rattle.line.proofs.Taking.{Progress, next-field, wrong-field, last-field}
 use Rattle.line.proofs.reading.take_parts.Statement.{statement}
 use Rattle.line.proofs.reading.take_parts.Tie as tie

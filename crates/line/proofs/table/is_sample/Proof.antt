@@ -1,5 +1,4 @@
 use mathlib.Core.Path.{sym}
-use borrow.Author.Needs.{needs}
 use Rattle.line.proofs.Ranges.{last-sample, held-sample, other-sample}
 use Rattle.line.proofs.table.is_sample.Statement.{statement}
 use Rattle.line.proofs.table.is_sample.Tie as tie

@@ -2,10 +2,9 @@ use borrow.Author.Needs.{needs}
 use native.Mathlib.Omega.{arith}
 use mathlib.Core.Path.{_≡_, sym, ap, _∙_}
 use Prim.Native.Nat.{_+_, _≤_}
-use lib.ListN.{getD}
 use borrow.Author.Tests.{eq-eqb, ne-eqb, le-leb, lt-leb}
 use Rattle.decimal.specs.declared.TakenNatural.the-variants.{Natural}
-use Rattle.log.specs.Lines.{oneAt, withByte, twoOf, twoAt, Within}
+use Rattle.log.specs.Lines.{oneAt, withByte, twoOf, twoAt}
 use Rattle.log.proofs.Commas.{comma-inside}
 use Rattle.log.proofs.parsing.two_numbers.Statement.{statement}
 use Rattle.log.proofs.parsing.two_numbers.Tie as tie

@@ -1,11 +1,11 @@
 use borrow.Author.Needs.{needs}
-use mathlib.Core.Path.{_≡_, refl, sym, ap, _∙_}
+use mathlib.Core.Path.{refl, sym, ap, _∙_}
 use Prim.Native.Nat.{_*_}
 use lib.ListN.{length}
 use borrow.Author.Tests.{not-true, not-false, eqb-true}
 use Rattle.voices.specs.declared.Core.{Core}
 use Rattle.frames.specs.declared.Turned.{Turned}
-use Rattle.s3w2.specs.declared.Answer.the-variants.{Done, Byte, Count, Flag}
+use Rattle.s3w2.specs.declared.Answer.the-variants.{Done}
 use Rattle.s3w2.specs.Answers.{answered}
 use Rattle.s3w2.specs.Chips.{withCore}
 use Rattle.s3w2.specs.Sound.{clockCalled, clockStems}

@@ -1,7 +1,7 @@
 use borrow.Author.Needs.{needs}
 use mathlib.Core.Path.{_≡_, refl, sym, ap, _∙_}
 use mathlib.Core.Bool.{true}
-use Prim.Native.Nat.{ℕ, _+_, _-_, _*_, _≤_, _<_}
+use Prim.Native.Nat.{_+_, _-_, _*_, _≤_}
 use native.Mathlib.Omega.{arith}
 use lib.Dec.{eqb}
 use mathlib.Core.List.{List, _++_}
@@ -9,7 +9,7 @@ use lib.IntN.{ℤ, pos}
 use lib.ListN.{length, take, drop, length-replicate}
 use borrow.Author.Tests.{not-true, not-false}
 use Rattle.sides.specs.Sides.{saturating}
-use Rattle.s3w2.specs.declared.Answer.the-variants.{Done, Byte, Count, Flag}
+use Rattle.s3w2.specs.declared.Answer.the-variants.{Done}
 use Rattle.s3w2.specs.Answers.{answered}
 use Rattle.s3w2.specs.Chips.{withCore}
 use Rattle.s3w2.specs.Mixing.{Mix, mix, mixedCalled, mixedLeft, mixedRight}

@@ -1,8 +1,8 @@
 use borrow.Author.Needs.{needs}
-use mathlib.Core.Path.{_≡_, refl, sym, ap, _∙_}
+use mathlib.Core.Path.{sym, ap, _∙_}
 use borrow.Author.Tests.{not-true, not-false}
 use Prim.Native.Nat.{ℕ}
-use Rattle.s3w2.specs.declared.Answer.the-variants.{Done, Byte, Count, Flag}
+use Rattle.s3w2.specs.declared.Answer.the-variants.{Byte}
 use Rattle.s3w2.specs.Channels.{readChannelPcmRegAnswer}
 use Rattle.s3w2.proofs.Refused.{tells-away, goes-told}
 use Rattle.s3w2.proofs.Chip.read_channel_pcm_reg.Statement.{statement}

@@ -1,6 +1,6 @@
 use borrow.Author.Needs.{needs}
 use mathlib.Core.Path.{refl, sym, _∙_}
-use borrow.Author.Tests.{not-true, not-false, eq-eqb, ne-eqb}
+use borrow.Author.Tests.{not-true, not-false}
 use Rattle.s3w2.proofs.Refused.{no-state, nothing-amiss}
 use Rattle.s3w2.proofs.Chip.refusal.Statement.{statement}
 use Rattle.s3w2.proofs.Chip.refusal.Tie as tie

@@ -1,6 +1,6 @@
 use borrow.Author.Needs.{needs}
-use mathlib.Core.Path.{refl, sym, _∙_}
-use borrow.Author.Tests.{not-true, not-false, eq-eqb, ne-eqb}
+use mathlib.Core.Path.{sym, _∙_}
+use borrow.Author.Tests.{not-true, not-false}
 use Rattle.s3w2.proofs.Refused.{not-clocked, clocked-without, clocked}
 use Rattle.s3w2.proofs.Chip.refusal_of_clock.Statement.{statement}
 use Rattle.s3w2.proofs.Chip.refusal_of_clock.Tie as tie

@@ -1,6 +1,6 @@
 use borrow.Author.Needs.{needs}
-use mathlib.Core.Path.{refl, sym, _∙_}
-use borrow.Author.Tests.{not-true, not-false, eq-eqb, ne-eqb}
+use mathlib.Core.Path.{refl, _∙_}
+use borrow.Author.Tests.{eq-eqb, ne-eqb}
 use Rattle.s3w2.proofs.Refused.{no-queues, queues-fine}
 use Rattle.s3w2.proofs.Chip.refusal_with_queues.Statement.{statement}
 use Rattle.s3w2.proofs.Chip.refusal_with_queues.Tie as tie

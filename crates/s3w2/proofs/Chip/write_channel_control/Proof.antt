@@ -1,8 +1,8 @@
 use borrow.Author.Needs.{needs}
-use mathlib.Core.Path.{_≡_, refl, sym, ap, _∙_}
+use mathlib.Core.Path.{sym, ap, _∙_}
 use borrow.Author.Tests.{not-true, not-false}
 use Rattle.voices.specs.declared.Core.{Core}
-use Rattle.s3w2.specs.declared.Answer.the-variants.{Done, Byte, Count, Flag}
+use Rattle.s3w2.specs.declared.Answer.the-variants.{Done}
 use Rattle.s3w2.specs.Answers.{answered}
 use Rattle.s3w2.specs.Chips.{withCore}
 use Rattle.s3w2.specs.Channels.{writeChannelControlCalled, writeChannelControlBuffer}

@@ -8,32 +8,22 @@ use Rattle.frames.specs.declared.Turned.{Turned}
 use Rattle.s3w2.proofs.Mixes.{heard-from}
 use Rattle.s3w2.proofs.mixing.add_frames.Statement.{statement}
 use Rattle.s3w2.proofs.mixing.add_frames.Tie as tie
-use Rattle.s3w2.proofs.mixing.add_frames.Reads as reads
-use Rattle.s3w2.proofs.mixing.add_frames.Lts as lts
-use Rattle.frames.proofs.run.Reads as run-reads
-use Rattle.sides.proofs.add.Reads as add-reads
 
--- src/mixing.rt:40:9
 run-requires : tie.Need-run-requires
 run-requires c κs = search needs
 
--- src/mixing.rt:41:5
 add-requires : tie.Need-add-requires
 add-requires c κs = search needs
 
--- src/mixing.rt:25:1
 same-length : tie.Need-same-length
 same-length c = search needs
 
--- src/mixing.rt:25:1
 same-length-2 : tie.Need-same-length-2
 same-length-2 c = search needs
 
--- src/mixing.rt:25:1
 same-length-3 : tie.Need-same-length-3
 same-length-3 c = search needs
 
--- src/mixing.rt:25:1
 returns : tie.Need-returns
 returns c =
     let a = c .before .before .before .before .before .before .before .before .before .before .before .args in

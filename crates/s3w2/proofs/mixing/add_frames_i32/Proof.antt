@@ -8,32 +8,22 @@ use Rattle.frames.specs.declared.Turned.{Turned}
 use Rattle.s3w2.proofs.Mixes.{heard-from}
 use Rattle.s3w2.proofs.mixing.add_frames_i32.Statement.{statement}
 use Rattle.s3w2.proofs.mixing.add_frames_i32.Tie as tie
-use Rattle.s3w2.proofs.mixing.add_frames_i32.Reads as reads
-use Rattle.s3w2.proofs.mixing.add_frames_i32.Lts as lts
-use Rattle.frames.proofs.run.Reads as run-reads
-use Rattle.sides.proofs.add_i32.Reads as add-i32-reads
 
--- src/mixing.rt:60:9
 run-requires : tie.Need-run-requires
 run-requires c κs = search needs
 
--- src/mixing.rt:61:5
 add-i32-requires : tie.Need-add-i32-requires
 add-i32-requires c κs = search needs
 
--- src/mixing.rt:45:1
 same-length : tie.Need-same-length
 same-length c = search needs
 
--- src/mixing.rt:45:1
 same-length-2 : tie.Need-same-length-2
 same-length-2 c = search needs
 
--- src/mixing.rt:45:1
 same-length-3 : tie.Need-same-length-3
 same-length-3 c = search needs
 
--- src/mixing.rt:45:1
 returns : tie.Need-returns
 returns c =
     let a = c .before .before .before .before .before .before .before .before .before .before .before .args in

@@ -1,4 +1,3 @@
-use borrow.Author.Needs.{needs}
 use Rattle.s3w2.proofs.Cases.{stems-uneven, stems-even}
 use Rattle.s3w2.proofs.refusals.is_stem_buffer.Statement.{statement}
 use Rattle.s3w2.proofs.refusals.is_stem_buffer.Tie as tie

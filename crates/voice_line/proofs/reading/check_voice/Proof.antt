@@ -1,4 +1,4 @@
-use mathlib.Core.Path.{_≡_, refl, sym, ap, _∙_}
+use mathlib.Core.Path.{sym, ap, _∙_}
 use Rattle.voice_line.specs.Lines.{toldOf}
 use Rattle.voice_line.proofs.Whole.{read-yes, read-no, told-yes}
 use borrow.Author.Needs.{needs}

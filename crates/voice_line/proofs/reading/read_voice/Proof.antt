@@ -1,4 +1,4 @@
-use mathlib.Core.Path.{_≡_, refl, sym, ap, _∙_}
+use mathlib.Core.Path.{sym, _∙_}
 use Rattle.voice_line.proofs.Whole.{read-yes, read-no, after-yes, after-no}
 use borrow.Author.Needs.{needs}
 use Rattle.voice_line.proofs.reading.read_voice.Statement.{statement}

@@ -1,7 +1,6 @@
-use mathlib.Core.Path.{_≡_, refl, sym, ap, _∙_}
-use Prim.Native.Nat.{ℕ, _+_, _-_, _≤_, _<_, _%_}
+use mathlib.Core.Path.{refl, sym, _∙_}
+use Prim.Native.Nat.{_-_, _<_}
 use native.Mathlib.Omega.{arith}
-use lib.ListN.{length, getD}
 use Rattle.voice_line.specs.Numbers.{at, tableOf}
 use Rattle.voice_line.proofs.Storing.{Storing, start, next, clipped, same-size, size-read-table, nth-read-table}
 use borrow.Author.Needs.{needs}

@@ -1,7 +1,7 @@
-use mathlib.Core.Path.{_≡_, refl, sym, ap, _∙_}
-use Prim.Native.Nat.{ℕ, _+_, _-_, _≤_, _<_, _%_}
+use mathlib.Core.Path.{refl}
+use Prim.Native.Nat.{_-_}
 use native.Mathlib.Omega.{arith}
-use lib.ListN.{length, getD}
+use lib.ListN.{length}
 use Rattle.voice_line.proofs.Storing.{Storing, start, next, done, same-size}
 use borrow.Author.Needs.{needs}
 use Rattle.voice_line.proofs.writing.put_first.Statement.{statement}
