@@ -13,7 +13,7 @@ use Rattle.adpcm.specs.declared.Variant.the-variants.{H, L, LPlus}
 use Rattle.adpcm.specs.declared.VariantByte.{VariantByte}
 use Rattle.adpcm.specs.declared.VariantByte.the-variants.{Known, Unknown}
 use Rattle.adpcm.specs.declared.State.{State}
-use Rattle.adpcm.specs.Ima.{stepSize, difference, indexTable, indexAfter, imaCode}
+use Rattle.adpcm.specs.Ima.{stepSize, difference, indexTable, indexAfter, imaAt}
 
 -- ---- variants
 abbrev pub variantOf : ℕ → VariantByte
@@ -46,11 +46,15 @@ levelsOf version LPlus = cond (eqb version 1) (10 ∷ 11 ∷ 12 ∷ 14 ∷ []) (
 abbrev pub levelDifference : List ℕ → ℕ → ℕ → ℕ
 levelDifference levels step code = (getD levels (code % 4) 0 * step + 4) / 8
 
--- the difference that a code stands for
+-- the difference that a code stands for, at a step size and in a state
+unfoldable pub deltaAt : ℕ → Variant → ℕ → ℕ → ℤ
+deltaAt version H step code = signed (eqb (code / 8 % 2) 1) (difference step code)
+deltaAt version L step code = signed (eqb (code / 4 % 2) 1) (levelDifference (levelsOf version L) step code)
+deltaAt version LPlus step code = signed (eqb (code / 4 % 2) 1) (levelDifference (levelsOf version LPlus) step code)
+
 unfoldable pub deltaOf : ℕ → Variant → State → ℕ → ℤ
-deltaOf version H s code = signed (eqb (code / 8 % 2) 1) (difference (stepSize (s .index)) code)
-deltaOf version L s code = signed (eqb (code / 4 % 2) 1) (levelDifference (levelsOf version L) (stepSize (s .index)) code)
-deltaOf version LPlus s code = signed (eqb (code / 4 % 2) 1) (levelDifference (levelsOf version LPlus) (stepSize (s .index)) code)
+unfolding deltaAt
+deltaOf version k s code = deltaAt version k (stepSize (s .index)) code
 
 unfoldable pub levelIndexes : List ℤ
 levelIndexes = negsuc 0 ∷ pos 2 ∷ pos 4 ∷ pos 6 ∷ []
@@ -64,11 +68,15 @@ adjustOf LPlus code = getD levelIndexes (code % 4) (pos 0)
 abbrev pub updateOf : State → ℤ → ℤ → State
 updateOf s delta adjust = record { predictor = clamp16 (s .predictor +ℤ delta); index = indexAfter (s .index) adjust }
 
--- the decoder's state after a code. A code of variant H is the IMA's
+-- the decoder's state after a code, at a step size and at the state's own. A code of variant H is the IMA's
+unfoldable pub decodeAt : ℕ → Variant → State → ℕ → ℕ → State
+decodeAt version H s step code = imaAt s step code
+decodeAt version L s step code = updateOf s (deltaAt version L step code) (adjustOf L code)
+decodeAt version LPlus s step code = updateOf s (deltaAt version LPlus step code) (adjustOf LPlus code)
+
 unfoldable pub decodeCode : ℕ → Variant → State → ℕ → State
-decodeCode version H s code = imaCode s code
-decodeCode version L s code = updateOf s (deltaOf version L s code) (adjustOf L code)
-decodeCode version LPlus s code = updateOf s (deltaOf version LPlus s code) (adjustOf LPlus code)
+unfolding decodeAt
+decodeCode version k s code = decodeAt version k s (stepSize (s .index)) code
 
 -- ---- the volume, in 255ths
 -- version 3: to the nearest, a tie away from zero

@@ -28,11 +28,15 @@ difference step code = code / 4 % 2 * step + code / 2 % 2 * (step / 2) + code % 
 unfoldable pub indexAfter : ℕ → ℤ → ℕ
 indexAfter i a = natAbs (clamp (pos (min i 88) +ℤ a) (pos 0) (pos 88))
 
--- bit 3 is the sign
-unfoldable pub imaCode : State → ℕ → State
-imaCode s code =
-    let d = difference (stepSize (s .index)) code in
+-- a code at a step size; bit 3 is the sign
+unfoldable pub imaAt : State → ℕ → ℕ → State
+imaAt s step code =
+    let d = difference step code in
     record {
       predictor = clamp16 (cond (eqb (code / 8 % 2) 1) (s .predictor -ℤ pos d) (s .predictor +ℤ pos d));
       index = indexAfter (s .index) (getD indexTable (code % 16) (pos 0));
     }
+
+unfoldable pub imaCode : State → ℕ → State
+unfolding imaAt
+imaCode s code = imaAt s (stepSize (s .index)) code

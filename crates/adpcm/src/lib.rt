@@ -4,8 +4,8 @@ ghost use Prim.Native.Nat.{ℕ, _+_, _*_, _%_, _^_, _<_, _≤_, min};
 ghost use lib.Dec.{eqb};
 ghost use lib.IntN.{ℤ, pos, natAbs};
 ghost use lib.ListN.{getD};
-ghost use Rattle.adpcm.specs.Ima.{stepSize, difference as imaDifference, indexAfter};
-ghost use Rattle.adpcm.specs.Codes.{variantOf, bitsOf, payloadBytes, fragmentSize, legacyFragmentSize, levelsOf, levelIndexes, levelDifference, deltaOf, adjustOf, updateOf, decodeCode, volumeOf, legacyVolumeOf, codeAt};
+ghost use Rattle.adpcm.specs.Ima.{stepSizes, stepSize, indexTable, difference as imaDifference, indexAfter};
+ghost use Rattle.adpcm.specs.Codes.{variantOf, bitsOf, payloadBytes, fragmentSize, legacyFragmentSize, levelsOf, levelIndexes, levelDifference, deltaAt, deltaOf, adjustOf, updateOf, decodeAt, decodeCode, volumeOf, legacyVolumeOf, codeAt};
 
 pub enum Variant {
     H,
@@ -116,8 +116,6 @@ const STEPS: [u16; 89] = [
     32767,
 ];
 
-const H_INDEX_ADJUST: [i32; 16] = [-1, -1, -1, -1, 2, 4, 6, 8, -1, -1, -1, -1, 2, 4, 6, 8];
-
 impl Variant {
     pub fn try_from(value: u8) -> VariantByte
         ensures { λ r. ⌜ r ≡ variantOf value ⌝ }
@@ -172,6 +170,13 @@ impl Variant {
             Variant::LPlus => 25,
         }
     }
+}
+
+// For a reader of many: a constant table is written out at each use.
+pub fn step_sizes() -> [u16; 89]
+    ensures { λ r. ⌜ r ≡ stepSizes ⌝ }
+{
+    STEPS
 }
 
 fn step_size(index: usize) -> u32
@@ -233,11 +238,11 @@ fn level_difference(version: u8, variant: Variant, step: u32, code: u8) -> u16
     ((level * step + 4) / 8) as u16
 }
 
-// The difference that a code stands for.
-pub fn delta(version: u8, variant: Variant, state: State, code: u8) -> i32
-    ensures { λ r. ⌜ (r ≡ deltaOf version variant state code) × (natAbs r < 2 ^ 16) ⌝ }
+// The difference that a code stands for at a step size.
+fn delta_at(version: u8, variant: Variant, step: u32, code: u8) -> i32
+    requires { ⌜ step < 2 ^ 15 ⌝ }
+    ensures { λ r. ⌜ (r ≡ deltaAt version variant step code) × (natAbs r < 2 ^ 16) ⌝ }
 {
-    let step = step_size(state.index);
     match variant {
         Variant::H => num::with_sign(code / 8 % 2 == 1, difference(step, code)),
         Variant::L => num::with_sign(
@@ -249,6 +254,24 @@ pub fn delta(version: u8, variant: Variant, state: State, code: u8) -> i32
             level_difference(version, Variant::LPlus, step, code),
         ),
     }
+}
+
+// The same at the state's own step size.
+pub fn delta(version: u8, variant: Variant, state: State, code: u8) -> i32
+    ensures { λ r. ⌜ (r ≡ deltaOf version variant state code) × (natAbs r < 2 ^ 16) ⌝ }
+{
+    delta_at(version, variant, step_size(state.index), code)
+}
+
+// H: one step back without bit 2, else on by two, four, six or eight.
+fn code_adjust(code: u8) -> i32
+    ensures { λ r. ⌜ r ≡ getD indexTable (code % 16) (pos 0) ⌝ }
+{
+    let size = code % 8;
+    if size < 4 {
+        return -1;
+    }
+    (2 * size - 6) as i32
 }
 
 // L and L+: one step back for the lowest level, else on by two a level.
@@ -266,10 +289,9 @@ fn level_adjust(level: u8) -> i32
 fn adjust(variant: Variant, code: u8) -> i32
     ensures { λ r. ⌜ (r ≡ adjustOf variant code) × (natAbs r ≤ 8) ⌝ }
 {
-    let four = (code % 16) as usize;
     let two = code % 4;
     match variant {
-        Variant::H => H_INDEX_ADJUST[four],
+        Variant::H => code_adjust(code),
         Variant::L => level_adjust(two),
         Variant::LPlus => level_adjust(two),
     }
@@ -293,6 +315,18 @@ pub fn decode_code(version: u8, variant: Variant, state: State, code: u8) -> Sta
     update(
         state,
         delta(version, variant, state, code),
+        adjust(variant, code),
+    )
+}
+
+// The same at a given step size; one above 32,767 counts as 32,767.
+pub fn decode_at(version: u8, variant: Variant, state: State, size: u16, code: u8) -> State
+    ensures { λ r. ⌜ r ≡ decodeAt version variant state (min size 32767) code ⌝ }
+{
+    let step = num::least(size as usize, 32767) as u32;
+    update(
+        state,
+        delta_at(version, variant, step, code),
         adjust(variant, code),
     )
 }

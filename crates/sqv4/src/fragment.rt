@@ -50,16 +50,19 @@ fn decode_codes(
     ensures { λ r. ⌜ r ≡ ends version variant start (codesFrom variant (now (payload .entry)) 0 (places .count)) ⌝ }
 {
     let bits = variant.bits();
+    let steps = adpcm::step_sizes();
     let step = places.step;
     let count = places.count;
     let mut state = start;
     let mut at = places.at;
     let mut i = 0;
     while i < count {
-        state = adpcm::decode_code(
+        let index = num::least(state.index, 88);
+        state = adpcm::decode_at(
             version,
             variant,
             state,
+            steps[index],
             adpcm::unpack_code(payload, i, bits),
         );
         put(out, at, sound(version, state.predictor, volume));

@@ -1,24 +1,16 @@
 use borrow.Author.Needs.{needs, sfits-of}
 use mir.Facts.{toZ-ofZ}
-use mathlib.Core.Path.{refl}
 use Rattle.adpcm.specs.declared.Variant.the-variants.{H, L, LPlus}
-use Rattle.adpcm.specs.Ima.{indexTable}
 use Rattle.adpcm.specs.Codes.{adjustOf}
 use Rattle.adpcm.proofs.Tables.{adjust-le}
 use Rattle.adpcm.proofs.adjust.Statement.{statement}
 use Rattle.adpcm.proofs.adjust.Tie as tie
 
-cast-four : tie.Need-cast-four
-cast-four c = search needs
-
 enum-told : tie.Need-enum-told
 enum-told c = search needs
 
-mul-result : tie.Need-mul-result
-mul-result c = search needs
-
-array-copy-out-result : tie.Need-array-copy-out-result
-array-copy-out-result c = search needs
+code-adjust-requires : tie.Need-code-adjust-requires
+code-adjust-requires c κs = search needs
 
 enum-told-2 : tie.Need-enum-told-2
 enum-told-2 c = search needs
@@ -33,8 +25,8 @@ level-adjust-requires-2 : tie.Need-level-adjust-requires-2
 level-adjust-requires-2 c κs = search needs
 
 returns : tie.Need-returns
-unfolding adjustOf indexTable
-returns c = rw (toZ-ofZ (sfits-of (c .result .given)), c .before .enum-told .given .1) (refl, adjust-le H (c .before .before .before .args .code))
+unfolding adjustOf
+returns c = rw (toZ-ofZ (sfits-of (c .code-adjust .ok)), c .before .enum-told .given .1) (c .code-adjust .ensures, rw (c .code-adjust .ensures) (adjust-le H (c .before .before .before .args .code)))
 
 returns-2 : tie.Need-returns-2
 unfolding adjustOf
@@ -48,10 +40,8 @@ pub adjust-spec : {M : Type 1} → statement M
 adjust-spec =
     tie.close
     (tie.spec
-    cast-four
     enum-told
-    mul-result
-    array-copy-out-result
+    code-adjust-requires
     enum-told-2
     level-adjust-requires
     enum-told-3

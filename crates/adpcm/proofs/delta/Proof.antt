@@ -7,59 +7,12 @@ use Rattle.adpcm.proofs.delta.Tie as tie
 step-size-requires : tie.Need-step-size-requires
 step-size-requires c κs = search needs
 
-enum-told : tie.Need-enum-told
-enum-told c = search needs
-
-difference-requires : tie.Need-difference-requires
-difference-requires c κs = search needs
-
-with-sign-requires : tie.Need-with-sign-requires
-with-sign-requires c κs = search needs
-
-enum-told-2 : tie.Need-enum-told-2
-enum-told-2 c = search needs
-
-level-difference-requires : tie.Need-level-difference-requires
-level-difference-requires c κs = search needs
-
-with-sign-requires-2 : tie.Need-with-sign-requires-2
-with-sign-requires-2 c κs = search needs
-
-enum-told-3 : tie.Need-enum-told-3
-enum-told-3 c = search needs
-
-level-difference-requires-2 : tie.Need-level-difference-requires-2
-level-difference-requires-2 c κs = search needs
-
-with-sign-requires-3 : tie.Need-with-sign-requires-3
-with-sign-requires-3 c κs = search needs
+delta-at-requires : tie.Need-delta-at-requires
+delta-at-requires c κs = search needs
 
 returns : tie.Need-returns
 unfolding deltaOf
-returns c = rw (toZ-ofZ (sfits-of (c .with-sign .ok)), c .before .before .enum-told .given .1) (rw (c .before .difference .ensures, c .before .before .before .before .step-size .ensures .0) at (c .with-sign .ensures .0), c .with-sign .ensures .1)
-
-returns-2 : tie.Need-returns-2
-unfolding deltaOf
-returns-2 c = rw (toZ-ofZ (sfits-of (c .with-sign2 .ok)), c .before .before .enum-told2 .given .1) (rw (c .before .level-difference .ensures, c .before .before .before .before .step-size .ensures .0) at (c .with-sign2 .ensures .0), c .with-sign2 .ensures .1)
-
-returns-3 : tie.Need-returns-3
-unfolding deltaOf
-returns-3 c = rw (toZ-ofZ (sfits-of (c .with-sign3 .ok)), c .before .before .enum-told3 .given .1) (rw (c .before .level-difference2 .ensures, c .before .before .before .before .step-size .ensures .0) at (c .with-sign3 .ensures .0), c .with-sign3 .ensures .1)
+returns c = rw (toZ-ofZ (sfits-of (c .delta-at .ok))) (rw (c .before .step-size .ensures .0) at (c .delta-at .ensures .0), c .delta-at .ensures .1)
 
 pub delta-spec : {M : Type 1} → statement M
-delta-spec =
-    tie.close
-    (tie.spec
-    step-size-requires
-    enum-told
-    difference-requires
-    with-sign-requires
-    enum-told-2
-    level-difference-requires
-    with-sign-requires-2
-    enum-told-3
-    level-difference-requires-2
-    with-sign-requires-3
-    returns
-    returns-2
-    returns-3)
+delta-spec = tie.close (tie.spec step-size-requires delta-at-requires returns)

@@ -3,6 +3,7 @@ use lib.ListN.{set}
 use mir.Syntax.{w16}
 use mir.Val.{SFits}
 use Rattle.adpcm.specs.Codes.{bitsOf, decodeCode, codeAt}
+use Rattle.adpcm.proofs.Ima.{read-is}
 use Rattle.sqv4.specs.Decoding.{soundOf}
 use borrow.Author.Needs.{needs, sfits-of}
 use native.Mathlib.Omega.{arith}
@@ -15,25 +16,37 @@ use Rattle.sqv4.proofs.fragment.decode_codes.Statement.{statement}
 use Rattle.sqv4.proofs.fragment.decode_codes.Tie as tie
 
 abbrev Inv-loop : tie.InvT-loop
-Inv-loop version variant volume payload out₀ bits step count state₀ at₀ i₀ out state at i =
+Inv-loop version variant volume payload out₀ bits steps step count state₀ at₀ i₀ out state at i =
     (i ≤ count) × (at ≤ at₀ + 2 * i) × (length out ≡ length out₀)
     × (placed version variant volume payload out at step state i count ≡ placed version variant volume payload out₀ at₀ step state₀ 0 count)
     × (last version variant volume payload state i count ≡ last version variant volume payload state₀ 0 count)
 
 abbrev μ-loop : tie.MeasureT-loop
-μ-loop version variant volume payload out₀ bits step count state₀ at₀ i₀ out state at i = count - i
+μ-loop version variant volume payload out₀ bits steps step count state₀ at₀ i₀ out state at i = count - i
 
 bits-requires : tie.Need-bits-requires Inv-loop μ-loop
 bits-requires c κs = search needs
 
+step-sizes-requires : tie.Need-step-sizes-requires Inv-loop μ-loop
+step-sizes-requires c κs = search needs
+
 loop-holds : tie.Need-loop-holds Inv-loop μ-loop
 loop-holds c = search needs
+
+least-requires : tie.Need-least-requires Inv-loop μ-loop
+least-requires c κs = search needs
+
+mul-decode-at : tie.Need-mul-decode-at Inv-loop μ-loop
+mul-decode-at c = search needs
+
+array-read-decode-at : tie.Need-array-read-decode-at Inv-loop μ-loop
+array-read-decode-at c = search needs
 
 unpack-code-requires : tie.Need-unpack-code-requires Inv-loop μ-loop
 unpack-code-requires c κs = search needs
 
-decode-code-requires : tie.Need-decode-code-requires Inv-loop μ-loop
-decode-code-requires c κs = search needs
+decode-at-requires : tie.Need-decode-at-requires Inv-loop μ-loop
+decode-at-requires c κs = search needs
 
 sound-requires : tie.Need-sound-requires Inv-loop μ-loop
 sound-requires c κs = search needs
@@ -52,18 +65,21 @@ loop-less c = search needs
 
 loop-again : tie.Need-loop-again Inv-loop μ-loop
 loop-again c =
-    let a = c .before .before .before .before .before .before .before .before .before .before .before .args in
-    let l = c .before .before .before .before .before .before .before .before .loop in
-    let dc = c .before .before .before .before .before .decode-code in
+    let t = c .before .before .before .before .before .before .before .before in
+    let start = t .before .before .before .before .before in
+    let a = start .args in
+    let l = t .before .loop in
+    let dc = c .before .before .before .before .before .decode-at in
     let so = c .before .before .sound in
     let near : SFits w16 (dc .result .predictor) = record { sfits = c .before .before .before .struct-told .given .0 .1 } in
     let ed : dc .result ≡ decodeCode (a .version) (a .variant) (l .state) (codeAt (a .payload .now) (l .i) (bitsOf (a .variant))) =
-    rw (c .before .before .before .before .before .before .unpack-code .ensures, c .before .before .before .before .before .before .before .before .before .bits .ensures) at (dc .ensures) in
+    rw (c .before .before .before .before .before .before .unpack-code .ensures, c .before .before .before .before .before .before .before .least .ensures, t .before .before .step-sizes .ensures, t .before .before .before .bits .ensures) at (dc .ensures)
+    ∙ read-is (a .version) (a .variant) (l .state) (codeAt (a .payload .now) (l .i) (bitsOf (a .variant))) in
     let es : so .result ≡ soundOf (a .version) (dc .result .predictor) (a .volume) = rw (toZ-ofZ near) at (so .ensures) in
     let ep : c .before .put .last .0 ≡ set (l .out) (l .at) (so .result) = rw (toZ-ofZ (sfits-of (so .ok))) at (c .before .put .ensures) in
-    let h = c .before .before .before .before .before .before .before .loop-test .taken in (
+    let h = t .loop-test .taken in (
       omega (arith, h),
-      omega (arith, c .before .before .before .before .before .before .before .before .before .before .before .pre .1),
+      omega (arith, start .pre .1),
       rw ep (simp length-set (l .inv .2)),
       rw (ep, ed) (turn (a .version) (a .variant) (a .volume) (a .payload .now) (l .out) (l .at) (a .places .step) (l .state) (l .i) (a .places .count) (so .result) h (rw ed at es) ∙ l .inv .3),
       rw ed (turn-last (a .version) (a .variant) (a .volume) (a .payload .now) (l .state) (l .i) (a .places .count) h ∙ l .inv .4),
@@ -74,7 +90,7 @@ same-length c = search needs
 
 returns : tie.Need-returns Inv-loop μ-loop
 returns c =
-    let a = c .before .before .before .before .args in
+    let a = c .before .before .before .before .before .args in
     let l = c .before .loop in
     let v = a .version in
     let k = a .variant in
@@ -91,9 +107,13 @@ decode-codes-spec =
     Inv-loop
     μ-loop
     bits-requires
+    step-sizes-requires
     loop-holds
+    least-requires
+    mul-decode-at
+    array-read-decode-at
     unpack-code-requires
-    decode-code-requires
+    decode-at-requires
     sound-requires
     put-requires
     add-at
