@@ -1,7 +1,7 @@
 #!/usr/bin/env python3
 """s3w2_logs.py SEED NUMBER LENGTH: random logs; as a program, one score with LENGTH lines behind its voices.
 
-A log of `log` is well formed, of up to some thousands of lines, or has one malformed line somewhere: empty, cut short, too long, with a
+A log of `log` is well formed, of up to some thousands of lines, with runs of writes in some, or has one malformed line somewhere: empty, cut short, too long, with a
 leading zero, a sign, a space, a number out of range, a field too many or too few. A log of `score` sets voices up first, so that
 they sound: wavetables under every modulation, PCM, noise, streams of every version with loops, queues in part full; then it goes on with
 random lines among frames.
@@ -52,10 +52,21 @@ def malformed(rng):
     return rng.choice(BAD)
 
 
+def writes(rng):
+    """Writes of one kind in a row, around the 256 that the port plays at a time."""
+    count = rng.choice([2, 255, 256, 257, 258, 512, 513, rng.randrange(700)])
+    if rng.random() < 0.5:
+        return [f"W,{address(rng)},{rng.randrange(256)}" for _ in range(count)]
+    return [f"M,{rng.choice([rng.randrange(65536), rng.randrange(300), address(rng)])},{rng.randrange(256)}" for _ in range(count)]
+
+
 def log(seed, number):
     rng = random.Random(f"{seed} {number}")
     count = rng.choice([0, 1, 2, 10, 100, rng.randrange(1000), rng.randrange(12000)])
     lines = [line(rng) for _ in range(count)]
+    for _ in range(rng.choice([0, 0, 1, 4])):
+        place = rng.randrange(len(lines) + 1)
+        lines[place:place] = writes(rng)
     if rng.random() < 0.4:
         lines.insert(rng.randrange(len(lines) + 1), malformed(rng))
     text = "".join(each + "\n" for each in lines).encode("latin-1")
