@@ -4,6 +4,7 @@ ghost use Prim.Native.Nat.{ℕ, _+_, _*_, _%_, _^_, _<_, _≤_, min};
 ghost use lib.Dec.{eqb};
 ghost use lib.IntN.{ℤ, pos, natAbs};
 ghost use lib.ListN.{getD};
+ghost use Rattle.num.specs.Bytes.{field};
 ghost use Rattle.adpcm.specs.Ima.{stepSizes, stepSize, indexTable, difference as imaDifference, indexAfter};
 ghost use Rattle.adpcm.specs.Codes.{variantOf, bitsOf, payloadBytes, fragmentSize, legacyFragmentSize, levelsOf, levelIndexes, levelDifference, deltaAt, deltaOf, adjustOf, updateOf, decodeAt, decodeCode, volumeOf, legacyVolumeOf, codeAt};
 
@@ -347,6 +348,20 @@ pub fn apply_legacy_volume(reconstructed: i16, volume: u8) -> i16
     ((reconstructed as i32) * (volume as i32) / 255) as i16
 }
 
+// The bits from bit `within` of a byte on, low bits first; past the last byte there are zeros.
+fn bits_in(input: &[u8], at: usize, within: usize, width: usize) -> u8
+    requires { ⌜ (within ≤ 7) × (width ≤ 8) ⌝ }
+    ensures { λ r. ⌜ r ≡ field (now (input .entry)) (8 * at + within) width ⌝ }
+{
+    if input.len() <= at {
+        return 0;
+    }
+    let low = num::byte_at(input, at) as u32;
+    let high = num::byte_at(input, at + 1) as u32;
+    let mask = (1u32 << (width as u32)) - 1;
+    (((low + 256 * high) >> (within as u32)) & mask) as u8
+}
+
 // The code of a sample, of at most 8 bits.
 pub fn unpack_code(input: &[u8], sample: usize, bits: usize) -> u8
     ensures { λ r. ⌜ r ≡ codeAt (now (input .entry)) sample bits ⌝ }
@@ -354,11 +369,12 @@ pub fn unpack_code(input: &[u8], sample: usize, bits: usize) -> u8
     let width = num::least(bits, 8);
     let within = sample % 8 * width;
     let at = sample / 8 * width + within / 8;
-    if input.len() <= at {
-        return 0;
-    }
-    let low = num::byte_at(input, at) as u32;
-    let high = num::byte_at(input, at + 1) as u32;
-    let mask = (1u32 << (width as u32)) - 1;
-    (((low + 256 * high) >> ((within % 8) as u32)) & mask) as u8
+    bits_in(input, at, within % 8, width)
+}
+
+// The code that begins at a bit.
+pub fn unpack_bits(input: &[u8], bit: usize, bits: usize) -> u8
+    ensures { λ r. ⌜ r ≡ field (now (input .entry)) bit (min bits 8) ⌝ }
+{
+    bits_in(input, bit / 8, bit % 8, num::least(bits, 8))
 }

@@ -1,15 +1,36 @@
 -- A turn of the loop over codes: what is placed, and what is to come, are the whole run. Assumes nothing.
-use mathlib.Core.Path.{_≡_, refl, ap}
-use mathlib.Core.List.{List, [], _∷_}
-use Prim.Native.Nat.{ℕ, zero, suc, _+_, _-_, _≤_, _<_}
+use mathlib.Core.Path.{_≡_, ap, _∙_}
+use mathlib.Core.List.{List, _∷_}
+use Prim.Native.Nat.{ℕ, suc, _+_, _*_, _-_, _≤_, _<_, min}
+use native.Mathlib.Nat.{add-mul, one-mul}
 use native.Mathlib.Numerals.{add-one}
 use native.Mathlib.Omega.{arith}
 use lib.ListN.{set}
 use lib.IntN.{ℤ}
+use Rattle.num.specs.Bytes.{field}
 use Rattle.adpcm.specs.declared.Variant.{Variant}
+use Rattle.adpcm.specs.declared.Variant.the-variants.{H, L, LPlus}
 use Rattle.adpcm.specs.declared.State.{State}
 use Rattle.adpcm.specs.Codes.{bitsOf, decodeCode, codeAt}
 use Rattle.sqv4.specs.Decoding.{codesFrom, soundOf, sounds, ends, strided}
+
+-- ---- the bit at which a code begins
+bits-small : (k : Variant) → bitsOf k ≤ 4
+bits-small H = omega arith
+bits-small L = omega arith
+bits-small LPlus = omega arith
+
+module _ (k : Variant) (bits : ℕ) (e : bits ≡ bitsOf k) where
+  pub width : bits ≤ 4
+  width = rw e (bits-small k)
+
+  pub code-at : (payload : List ℕ) (i bit : ℕ) → bit ≡ i * bits → field payload bit (min bits 8) ≡ codeAt payload i (bitsOf k)
+  code-at payload i bit f =
+      let m : bits ≡ min bits 8 = omega (arith, width) in
+      ap (λ (b : ℕ). field payload b (min bits 8)) f ∙ ap (λ (w : ℕ). field payload (i * w) (min bits 8)) m ∙ ap (λ (w : ℕ). field payload (i * min w 8) (min w 8)) e
+
+  pub next-bit : (i bit : ℕ) → bit ≡ i * bits → bit + bits ≡ (i + 1) * bits
+  next-bit i bit f = rw (add-mul, one-mul) (ap (λ (n : ℕ). n + bits) f)
 
 -- the first of the codes to come
 next-code : (k : Variant) (payload : List ℕ) (i n : ℕ) → i < n → codesFrom k payload i (n - i) ≡ codeAt payload i (bitsOf k) ∷ codesFrom k payload (suc i) (n - suc i)

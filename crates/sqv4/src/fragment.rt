@@ -55,6 +55,7 @@ fn decode_codes(
     let count = places.count;
     let mut state = start;
     let mut at = places.at;
+    let mut bit = 0;
     let mut i = 0;
     while i < count {
         let index = num::least(state.index, 88);
@@ -63,10 +64,11 @@ fn decode_codes(
             variant,
             state,
             steps[index],
-            adpcm::unpack_code(payload, i, bits),
+            adpcm::unpack_bits(payload, bit, bits),
         );
         put(out, at, sound(version, state.predictor, volume));
         at += step;
+        bit += bits;
         i += 1;
     }
     state

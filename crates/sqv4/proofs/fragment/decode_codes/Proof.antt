@@ -1,4 +1,4 @@
-use native.Mathlib.Nat.{sub-zero}
+use native.Mathlib.Nat.{sub-zero, zero-mul}
 use lib.ListN.{set}
 use mir.Syntax.{w16}
 use mir.Val.{SFits}
@@ -7,22 +7,23 @@ use Rattle.adpcm.proofs.Ima.{read-is}
 use Rattle.sqv4.specs.Decoding.{soundOf}
 use borrow.Author.Needs.{needs, sfits-of}
 use native.Mathlib.Omega.{arith}
-use mathlib.Core.Path.{_≡_, refl, sym, ap, _∙_}
-use Prim.Native.Nat.{_≤_, _<_, _+_, _*_, _-_, _^_}
+use mathlib.Core.Path.{_≡_, refl, sym, _∙_}
+use Prim.Native.Nat.{_≤_, _+_, _*_, _-_}
 use lib.ListN.{length, length-set}
 use mir.Facts.{toZ-ofZ}
-use Rattle.sqv4.proofs.Runs.{placed, last, turn, turn-last, done, done-last}
+use Rattle.sqv4.proofs.Runs.{placed, last, turn, turn-last, done, done-last, width, code-at, next-bit}
 use Rattle.sqv4.proofs.fragment.decode_codes.Statement.{statement}
 use Rattle.sqv4.proofs.fragment.decode_codes.Tie as tie
 
 abbrev Inv-loop : tie.InvT-loop
-Inv-loop version variant volume payload out₀ bits steps step count state₀ at₀ i₀ out state at i =
+Inv-loop version variant volume payload out₀ bits steps step count state₀ at₀ bit₀ i₀ out state at bit i =
     (i ≤ count) × (at ≤ at₀ + 2 * i) × (length out ≡ length out₀)
     × (placed version variant volume payload out at step state i count ≡ placed version variant volume payload out₀ at₀ step state₀ 0 count)
     × (last version variant volume payload state i count ≡ last version variant volume payload state₀ 0 count)
+    × (bit ≡ i * bits) × (bit ≤ 4 * i)
 
 abbrev μ-loop : tie.MeasureT-loop
-μ-loop version variant volume payload out₀ bits steps step count state₀ at₀ i₀ out state at i = count - i
+μ-loop version variant volume payload out₀ bits steps step count state₀ at₀ bit₀ i₀ out state at bit i = count - i
 
 bits-requires : tie.Need-bits-requires Inv-loop μ-loop
 bits-requires c κs = search needs
@@ -31,7 +32,7 @@ step-sizes-requires : tie.Need-step-sizes-requires Inv-loop μ-loop
 step-sizes-requires c κs = search needs
 
 loop-holds : tie.Need-loop-holds Inv-loop μ-loop
-loop-holds c = search needs
+loop-holds c = (omega arith, omega arith, refl, refl, refl, sym (zero-mul (c .before .bits .result)), omega arith)
 
 least-requires : tie.Need-least-requires Inv-loop μ-loop
 least-requires c κs = search needs
@@ -42,8 +43,8 @@ mul-decode-at c = search needs
 array-read-decode-at : tie.Need-array-read-decode-at Inv-loop μ-loop
 array-read-decode-at c = search needs
 
-unpack-code-requires : tie.Need-unpack-code-requires Inv-loop μ-loop
-unpack-code-requires c κs = search needs
+unpack-bits-requires : tie.Need-unpack-bits-requires Inv-loop μ-loop
+unpack-bits-requires c κs = search needs
 
 decode-at-requires : tie.Need-decode-at-requires Inv-loop μ-loop
 decode-at-requires c κs = search needs
@@ -56,6 +57,12 @@ put-requires c κs = search needs
 
 add-at : tie.Need-add-at Inv-loop μ-loop
 add-at c = search needs
+
+add-bit : tie.Need-add-bit Inv-loop μ-loop
+add-bit c =
+    let start = c .before .before .before .before .before .before .before .before .before .before .before .before .before in
+    let l = c .before .before .before .before .before .before .before .before .before .loop in
+    omega (arith, l .inv .0, l .inv .6, start .pre .0, width (start .args .variant) _ (c .before .before .before .before .before .before .before .before .before .before .before .bits .ensures))
 
 add-i : tie.Need-add-i Inv-loop μ-loop
 add-i c = search needs
@@ -71,9 +78,11 @@ loop-again c =
     let l = t .before .loop in
     let dc = c .before .before .before .before .before .decode-at in
     let so = c .before .before .sound in
+    let bits = t .before .before .before .bits .ensures in
+    let code = code-at (a .variant) _ bits (a .payload .now) (l .i) (l .bit) (l .inv .5) in
     let near : SFits w16 (dc .result .predictor) = record { sfits = c .before .before .before .struct-told .given .0 .1 } in
     let ed : dc .result ≡ decodeCode (a .version) (a .variant) (l .state) (codeAt (a .payload .now) (l .i) (bitsOf (a .variant))) =
-    rw (c .before .before .before .before .before .before .unpack-code .ensures, c .before .before .before .before .before .before .before .least .ensures, t .before .before .step-sizes .ensures, t .before .before .before .bits .ensures) at (dc .ensures)
+    rw (c .before .before .before .before .before .before .unpack-bits .ensures ∙ code, c .before .before .before .before .before .before .before .least .ensures, t .before .before .step-sizes .ensures) at (dc .ensures)
     ∙ read-is (a .version) (a .variant) (l .state) (codeAt (a .payload .now) (l .i) (bitsOf (a .variant))) in
     let es : so .result ≡ soundOf (a .version) (dc .result .predictor) (a .volume) = rw (toZ-ofZ near) at (so .ensures) in
     let ep : c .before .put .last .0 ≡ set (l .out) (l .at) (so .result) = rw (toZ-ofZ (sfits-of (so .ok))) at (c .before .put .ensures) in
@@ -83,6 +92,8 @@ loop-again c =
       rw ep (simp length-set (l .inv .2)),
       rw (ep, ed) (turn (a .version) (a .variant) (a .volume) (a .payload .now) (l .out) (l .at) (a .places .step) (l .state) (l .i) (a .places .count) (so .result) h (rw ed at es) ∙ l .inv .3),
       rw ed (turn-last (a .version) (a .variant) (a .volume) (a .payload .now) (l .state) (l .i) (a .places .count) h ∙ l .inv .4),
+      next-bit (a .variant) _ bits (l .i) (l .bit) (l .inv .5),
+      omega (arith, l .inv .6, width (a .variant) _ bits),
     )
 
 same-length : tie.Need-same-length Inv-loop μ-loop
@@ -112,11 +123,12 @@ decode-codes-spec =
     least-requires
     mul-decode-at
     array-read-decode-at
-    unpack-code-requires
+    unpack-bits-requires
     decode-at-requires
     sound-requires
     put-requires
     add-at
+    add-bit
     add-i
     loop-less
     loop-again
