@@ -15,8 +15,8 @@ use Rattle.plain_chip.specs.Frames.{Played}
 use Rattle.plain_chip.specs.Chips.{Chip, withVoices}
 use Rattle.plain_chip.specs.Good.{ChipOk}
 use Rattle.plain_chip.proofs.Sims.{Sim}
-use Rattle.plain_chip.proofs.Calls as calls
 use Rattle.plain_chip.proofs.Calls.{chipSeen}
+use Rattle.plain_chip.proofs.Calls as calls
 use Rattle.call_lists.specs.Runs.{Ran}
 use Rattle.call_lists.specs.Mixing.{Mix, clearedTo}
 use Rattle.call_lists.specs.Texts.{Texts, TextsOk, Told, VoiceRead, voice, HeadRead, head}

@@ -9,8 +9,8 @@ use lib.Seq.{sets}
 use Rattle.version.specs.declared.SguVersion.{SguVersion}
 use Rattle.sides.specs.Sides.{saturating, wrapping}
 use Rattle.plain_chip.specs.Models.{Model}
-use Rattle.plain_chip.specs.Chips as chips
 use Rattle.plain_chip.specs.Chips.{Chip, withVoices, voiceAt, loadVoice}
+use Rattle.plain_chip.specs.Chips as chips
 use Rattle.call_lists.specs.Runs.{Ran}
 use Rattle.call_lists.specs.Mixing.{Mix, mixed, clearedTo}
 use Rattle.call_lists.specs.Texts.{Texts, VoiceRead, voice, HeadRead, head}

@@ -3,3 +3,4 @@ pub mod Mixing
 pub mod Texts
 pub mod Calls
 pub mod Seen
+pub mod Second

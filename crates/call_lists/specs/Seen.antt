@@ -1,17 +1,13 @@
 -- What is compared after each call, a session's reading by a second chip, and the calls' arguments.
-use mathlib.Core.Path.{_≡_}
 use mathlib.Core.List.{List, [], _∷_, map}
 use Prim.Native.Nat.{ℕ, suc, _<_}
-use lib.ListN.{length}
 use Rattle.version.specs.declared.SguVersion.{SguVersion}
-use Rattle.plain_chip.specs.Lists.{Every}
 use Rattle.plain_chip.specs.Voices.{PlainVoice}
-use Rattle.plain_chip.specs.Models.{Model, slots}
-use Rattle.plain_chip.specs.Chips.{Chip, World}
-use Rattle.plain_chip.specs.Good.{AcceptedSlot}
+use Rattle.plain_chip.specs.Models.{Model}
+use Rattle.plain_chip.specs.Chips.{Chip}
 use Rattle.call_lists.specs.Runs.{after}
 use Rattle.call_lists.specs.Texts.{Texts}
-use Rattle.call_lists.specs.Calls.{Call, reset, setVersion, resetChannel, writeRegister, readRegister, peekRegister, writeChannelControl, readChannelControl, writeChannelPcmReg, readChannelPcmReg, writeChannelWavetable, readChannelWavetable, wavetableLength, interpolates, writePcmRam, readPcmRam, generateSample, clock, clockMixed, clockMixedInto, clockMixedIntoI32, writeHead, readHead, writeVoice, readVoice, run}
+use Rattle.call_lists.specs.Calls.{Call, reset, setVersion, resetChannel, writeRegister, readRegister, peekRegister, writeChannelControl, readChannelControl, writeChannelPcmReg, readChannelPcmReg, writeChannelWavetable, readChannelWavetable, wavetableLength, interpolates, writePcmRam, readPcmRam, generateSample, clock, clockMixed, clockMixedInto, clockMixedIntoI32, writeHead, readHead, writeVoice, readVoice}
 
 -- the session text, head and voice lines, and the RAM
 pub record Seen : Type 0 where
@@ -27,17 +23,12 @@ linesFrom t k (v ∷ l) = t .voiceText k v ∷ linesFrom t (suc k) l
 abbrev pub seenOf : Texts → SguVersion → List ℕ → List PlainVoice → Seen
 seenOf t version ram voices = record { head = t .headText version; lines = linesFrom t 0 voices; ram = ram }
 
+-- the session's fields of the voices
+abbrev pub voices : {A : Type 0} → Model A → Chip A → List PlainVoice
+voices m c = map (m .session) (c .voices)
+
 abbrev pub seen : {A : Type 0} → Model A → Texts → Chip A → Seen
-seen m t c = seenOf t (c .version) (c .ram) (map (m .session) (c .voices))
-
--- a chip that reads a session's head and then its lines, in order
-abbrev pub resumed : Texts → World → Seen → World
-resumed t w s = after (run slots t) w (readHead (s .head) ∷ map readVoice (s .lines))
-
--- a second chip in any accepted state: of its caches nothing is known
-pub record Accepted (w : World) : Type 0 where
-  pub voices : Every (AcceptedSlot (w .version) (length (w .ram))) (w .voices)
-  pub eight : length (w .voices) ≡ 8
+seen m t c = seenOf t (c .version) (c .ram) (voices m c)
 
 -- arguments that are bytes: a byte that is written, an offset in a wavetable
 abbrev pub FitCall : Call → Type 0

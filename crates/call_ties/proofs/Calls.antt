@@ -29,11 +29,10 @@ use Rattle.s3w2.specs.Fresh.{setVersionCalled, resetCalled, resetRam, resetChan
 use Rattle.s3w2.specs.Registers.{writeRegisterCalled, writeRegisterBuffer, readRegisterCalled, peekRegisterAnswer}
 use Rattle.s3w2.specs.Channels.{writeChannelWavetableCalled, readChannelWavetableAnswer, writeChannelControlCalled, writeChannelControlBuffer, readChannelControlCalled, writeChannelPcmRegCalled, readChannelPcmRegAnswer, wavetableLengthAnswer, interpolatesAnswer}
 use Rattle.s3w2.specs.Ram.{writePcmRamCalled, writePcmRamRam, readPcmRamAnswer}
-use Rattle.plain_chip.specs.Models.{slots}
+use Rattle.slots.specs.Models.{slots, World}
+use Rattle.slots.specs.Good.{WorldOk}
+use Rattle.slots.proofs.Slots.{slots-plain}
 use Rattle.plain_chip.specs.Chips as chips
-use Rattle.plain_chip.specs.Chips.{World}
-use Rattle.plain_chip.specs.Good.{WorldOk}
-use Rattle.plain_chip.proofs.Slots.{slots-plain}
 use Rattle.plain_chip.proofs.Calls as oks
 use Rattle.chip_slots.specs.Whole.{worldOf}
 use Rattle.chip_slots.proofs.Puts.{none-changed}
@@ -43,17 +42,17 @@ use Rattle.call_lists.specs.Runs.{Ran}
 use Rattle.call_lists.specs.Texts.{Texts}
 use Rattle.call_lists.specs.Calls as list
 use Rattle.call_lists.specs.Calls.{Call, run}
-use Rattle.call_ties.specs.Ties.{world, Held, Machine, Heard, replyOf, by, told, Tied}
+use Rattle.call_ties.specs.Ties.{world, Held, Machine, replyOf, by, told, Tied}
 use Rattle.call_ties.proofs.Accepting.{accepted-held, own-none, ram-none, queues-none}
 
 -- ---- a call that is not turned away
-pub through : (f : Answer → Ran Machine Heard) (r : Answer) (x : Ran World list.Answer) → r ≡ Done → Tied (f Done) x → Tied (f r) x
+pub through : (f : Answer → Ran Machine list.Answer) (r : Answer) (x : Ran World list.Answer) → r ≡ Done → Tied (f Done) x → Tied (f r) x
 through f r x e t = subst (λ (a : Answer). Tied (f a) x) (sym e) t
 
-pub made : (y : Ran Machine Heard) (x : Ran World list.Answer) → world (y .next .chip) (y .next .ram) (y .next .queues) ≡ x .next
-    → y .answer .reply ≡ x .answer .reply → y .answer .sides ≡ x .answer .sides → y .answer .text ≡ x .answer .text
+pub made : (y : Ran Machine list.Answer) (x : Ran World list.Answer) → world (y .next .chip) (y .next .ram) (y .next .queues) ≡ x .next
+    → y .answer ≡ x .answer
     → isRamLength (length (y .next .ram)) ≡ true → SizedCore (y .next .chip .core) → length (y .next .queues) ≡ 16384 → WorldOk (x .next) → Tied y x
-made y x e f g h a s l ok = record { next = e; reply = f; sides = g; text = h; held = record { allowed = a; sized = s; long = l; good = subst WorldOk (sym e) ok } }
+made y x e f a s l ok = record { next = e; answer = f; held = record { allowed = a; sized = s; long = l; good = subst WorldOk (sym e) ok } }
 
 module _ (t : Texts) (chip : Chip) (ram : List ℕ) (queues : List ℤ) (held : Held chip ram queues) where
   abbrev w : World
@@ -81,29 +80,29 @@ module _ (t : Texts) (chip : Chip) (ram : List ℕ) (queues : List ℤ) (held : 
   pub tied-version : (other : SguVersion) → Tied (by (setVersionCalled chip other) ram queues []) (ran (list.setVersion other))
   unfolding setVersionCalled run
   tied-version other =
-      own _ _ (made _ _ (world-version k queues (held .sized) version other ram) refl refl refl (held .allowed) (cores.version-kept k version n accepted other n .sized) (held .long) (oks.ok-set-version slots-plain w (held .good) other))
+      own _ _ (made _ _ (world-version k queues (held .sized) version other ram) refl (held .allowed) (cores.version-kept k version n accepted other n .sized) (held .long) (oks.ok-set-version slots-plain w (held .good) other))
 
   pub tied-reset-channel : (ch : ℕ) → Tied (by (resetChannelCalled chip ch) ram queues []) (ran (list.resetChannel ch))
   unfolding resetChannelCalled run
   tied-reset-channel ch =
-      own _ _ (made _ _ (world-reset-channel k queues (held .sized) (held .long) ch version ram) refl refl refl (held .allowed) (cores.reset-kept k version n accepted ch .sized) (held .long) (oks.ok-reset-channel slots-plain w (held .good) ch))
+      own _ _ (made _ _ (world-reset-channel k queues (held .sized) (held .long) ch version ram) refl (held .allowed) (cores.reset-kept k version n accepted ch .sized) (held .long) (oks.ok-reset-channel slots-plain w (held .good) ch))
 
   pub tied-read-register : (address : ℕ) → Tied (by (readRegisterCalled chip address) ram queues []) (ran (list.readRegister address))
   unfolding readRegisterCalled run
   tied-read-register address =
-      own _ _ (made _ _ (world-after-register k queues (held .sized) (held .long) version ram address) (ap list.byte (told-peek version k ram queues address)) refl refl (held .allowed) (cores.read-register-kept k version n accepted address .sized) (held .long)
+      own _ _ (made _ _ (world-after-register k queues (held .sized) (held .long) version ram address) (ap (λ (x : ℕ). list.replies (list.byte x)) (told-peek version k ram queues address)) (held .allowed) (cores.read-register-kept k version n accepted address .sized) (held .long)
       (oks.ok-after-register slots-plain w (held .good) address))
 
   pub tied-read-control : (ch offset : ℕ) → Tied (by (readChannelControlCalled chip ch offset) ram queues []) (ran (list.readChannelControl ch offset))
   unfolding readChannelControlCalled run
   tied-read-control ch offset =
-      own _ _ (made _ _ (world-after-read k queues (held .sized) (held .long) ch version ram offset) (ap list.byte (told-control version k ram queues ch offset)) refl refl (held .allowed) (cores.read-channel-kept k version n accepted ch offset .sized) (held .long)
+      own _ _ (made _ _ (world-after-read k queues (held .sized) (held .long) ch version ram offset) (ap (λ (x : ℕ). list.replies (list.byte x)) (told-control version k ram queues ch offset)) (held .allowed) (cores.read-channel-kept k version n accepted ch offset .sized) (held .long)
       (oks.ok-after-read slots-plain w (held .good) ch offset))
 
   pub tied-pcm : (ch offset value : ℕ) → value < 256 → Tied (by (writeChannelPcmRegCalled chip ch offset value) ram queues []) (ran (list.writeChannelPcmReg ch offset value))
   unfolding writeChannelPcmRegCalled run
   tied-pcm ch offset value h =
-      own _ _ (made _ _ (world-pcm k queues (held .sized) (held .long) ch version ram offset value) refl refl refl (held .allowed) (cores.pcm-kept k version n accepted ch offset value h .sized) (held .long)
+      own _ _ (made _ _ (world-pcm k queues (held .sized) (held .long) ch version ram offset value) refl (held .allowed) (cores.pcm-kept k version n accepted ch offset value h .sized) (held .long)
       (oks.ok-write-pcm slots-plain w (held .good) ch offset value h))
 
   -- a wavetable byte, by its place among all
@@ -126,36 +125,36 @@ module _ (t : Texts) (chip : Chip) (ram : List ℕ) (queues : List ℤ) (held : 
 
       go : (b : Bool) → ltb ch 8 ≡ b
           → Tied (by (answered (cond b (withCore chip (writeWavetable k (ch * 256 + at) value)) chip) Done) ram queues []) (record { next = chips.writeChannelWavetable slots ch at value w; answer = list.replies list.done })
-      go true e = made _ _ (wave-at ch at value l (ltb-true ch 8 e)) refl refl refl (held .allowed) (cores.wavetable-kept k version n accepted (ch * 256 + at) value .sized) (held .long) ok
-      go false e = made _ _ (wave-none ch at value (ltb-false ch 8 e)) refl refl refl (held .allowed) (held .sized) (held .long) ok
+      go true e = made _ _ (wave-at ch at value l (ltb-true ch 8 e)) refl (held .allowed) (cores.wavetable-kept k version n accepted (ch * 256 + at) value .sized) (held .long) ok
+      go false e = made _ _ (wave-none ch at value (ltb-false ch 8 e)) refl (held .allowed) (held .sized) (held .long) ok
 
   -- ---- calls that only tell: the world stays
-  tells : (r a : Answer) (y : list.Answer) → r ≡ Done → replyOf a ≡ y .reply → [] ≡ y .sides → [] ≡ y .text → Tied (told chip ram queues (answers.told r a)) (record { next = w; answer = y })
-  tells r a y e f g h = through (λ z. told chip ram queues (answers.told z a)) r _ e (record { next = refl; reply = f; sides = g; text = h; held = held })
+  tells : (r a : Answer) (y : list.Answer) → r ≡ Done → list.replies (replyOf a) ≡ y → Tied (told chip ram queues (answers.told r a)) (record { next = w; answer = y })
+  tells r a y e f = through (λ z. told chip ram queues (answers.told z a)) r _ e (record { next = refl; answer = f; held = held })
 
   pub tied-peek : (address : ℕ) → Tied (told chip ram queues (peekRegisterAnswer chip address)) (ran (list.peekRegister address))
   unfolding peekRegisterAnswer run
-  tied-peek address = tells (ownRefusal chip) _ _ (own-none chip ram queues held) (ap list.byte (told-peek version k ram queues address)) refl refl
+  tied-peek address = tells (ownRefusal chip) _ _ (own-none chip ram queues held) (ap (λ (x : ℕ). list.replies (list.byte x)) (told-peek version k ram queues address))
 
   pub tied-read-pcm : (ch offset : ℕ) → Tied (told chip ram queues (readChannelPcmRegAnswer chip ch offset)) (ran (list.readChannelPcmReg ch offset))
   unfolding readChannelPcmRegAnswer run
-  tied-read-pcm ch offset = tells (ownRefusal chip) _ _ (own-none chip ram queues held) (ap list.byte (told-pcm version k ram queues ch offset)) refl refl
+  tied-read-pcm ch offset = tells (ownRefusal chip) _ _ (own-none chip ram queues held) (ap (λ (x : ℕ). list.replies (list.byte x)) (told-pcm version k ram queues ch offset))
 
   pub tied-length : (ch : ℕ) → Tied (told chip ram queues (wavetableLengthAnswer chip ch)) (ran (list.wavetableLength ch))
   unfolding wavetableLengthAnswer run
-  tied-length ch = tells (ownRefusal chip) _ _ (own-none chip ram queues held) (ap list.count (told-length version k ram queues ch)) refl refl
+  tied-length ch = tells (ownRefusal chip) _ _ (own-none chip ram queues held) (ap (λ (x : ℕ). list.replies (list.count x)) (told-length version k ram queues ch))
 
   pub tied-interpolates : (ch : ℕ) → Tied (told chip ram queues (interpolatesAnswer chip ch)) (ran (list.interpolates ch))
   unfolding interpolatesAnswer run
-  tied-interpolates ch = tells (ownRefusal chip) _ _ (own-none chip ram queues held) (ap list.flag (told-interpolates version k ram queues ch)) refl refl
+  tied-interpolates ch = tells (ownRefusal chip) _ _ (own-none chip ram queues held) (ap (λ (x : Bool). list.replies (list.flag x)) (told-interpolates version k ram queues ch))
 
   pub tied-read-ram : (address : ℕ) → Tied (told chip ram queues (readPcmRamAnswer chip ram address)) (ran (list.readPcmRam address))
   unfolding readPcmRamAnswer run
-  tied-read-ram address = tells (ramRefusal chip n) _ _ (ram-none chip ram queues held) refl refl refl
+  tied-read-ram address = tells (ramRefusal chip n) _ _ (ram-none chip ram queues held) refl
 
   pub tied-read-wave : (ch at : ℕ) → at < 256 → Tied (told chip ram queues (readChannelWavetableAnswer chip ch at)) (ran (list.readChannelWavetable ch at))
   unfolding readChannelWavetableAnswer run chips.readChannelWavetable
-  tied-read-wave ch at l = tells (ownRefusal chip) _ _ (own-none chip ram queues held) (ap list.byte (go (ltb ch 8) refl)) refl refl
+  tied-read-wave ch at l = tells (ownRefusal chip) _ _ (own-none chip ram queues held) (ap (λ (x : ℕ). list.replies (list.byte x)) (go (ltb ch 8) refl))
     where
       go : (b : Bool) → ltb ch 8 ≡ b → cond (ltb ch 8) (readWavetable k (ch * 256 + at)) 0 ≡ chips.readChannelWavetable slots ch at w
       go true e =
@@ -174,14 +173,14 @@ module _ (t : Texts) (chip : Chip) (ram : List ℕ) (queues : List ℤ) (held : 
       → Tied (by (writeRegisterCalled chip (length queues) address value) ram (writeRegisterBuffer chip queues address value) []) (ran (list.writeRegister address value))
   unfolding writeRegisterCalled writeRegisterBuffer run
   tied-write-register address value h =
-      queued _ _ _ (made _ _ (world-register k queues (held .sized) (held .long) version ram address value) refl refl refl (held .allowed) (cores.register-kept k version n accepted address value h .sized)
+      queued _ _ _ (made _ _ (world-register k queues (held .sized) (held .long) version ram address value) refl (held .allowed) (cores.register-kept k version n accepted address value h .sized)
       (length-register-queues version k queues address value ∙ held .long) (oks.ok-write-register slots-plain w (held .good) address value h))
 
   pub tied-control : (ch offset value : ℕ) → value < 256
       → Tied (by (writeChannelControlCalled chip (length queues) ch offset value) ram (writeChannelControlBuffer chip queues ch offset value) []) (ran (list.writeChannelControl ch offset value))
   unfolding writeChannelControlCalled writeChannelControlBuffer run
   tied-control ch offset value h =
-      queued _ _ _ (made _ _ (world-control k queues (held .sized) (held .long) ch version ram offset value) refl refl refl (held .allowed) (cores.control-kept k version n accepted ch offset value .sized)
+      queued _ _ _ (made _ _ (world-control k queues (held .sized) (held .long) ch version ram offset value) refl (held .allowed) (cores.control-kept k version n accepted ch offset value .sized)
       (length-queues version k queues ch offset value ∙ held .long) (oks.ok-write-control slots-plain w (held .good) ch offset value h))
 
   -- ---- calls that are lent the RAM
@@ -192,7 +191,7 @@ module _ (t : Texts) (chip : Chip) (ram : List ℕ) (queues : List ℤ) (held : 
   pub tied-reset : Tied (by (resetCalled chip (length ram)) (resetRam chip ram) queues []) (ran list.reset)
   unfolding resetCalled resetRam run
   tied-reset =
-      poked _ _ (zeroed ram) (made _ _ (world-reset k queues (held .sized) version ram) refl refl refl (ap isRamLength (length-replicate {A = ℕ} n 0) ∙ held .allowed) fresh-sized (held .long) (oks.ok-reset slots-plain w (held .good)))
+      poked _ _ (zeroed ram) (made _ _ (world-reset k queues (held .sized) version ram) refl (ap isRamLength (length-replicate {A = ℕ} n 0) ∙ held .allowed) fresh-sized (held .long) (oks.ok-reset slots-plain w (held .good)))
 
   pub tied-write-ram : (address value : ℕ) → value < 256 → Tied (by (writePcmRamCalled chip (length ram) address) (writePcmRamRam chip ram address value) queues []) (ran (list.writePcmRam address value))
   unfolding writePcmRamCalled writePcmRamRam run chips.writePcmRam
@@ -211,5 +210,5 @@ module _ (t : Texts) (chip : Chip) (ram : List ℕ) (queues : List ℤ) (held : 
 
       go : (b : Bool) → ltb address n ≡ b
           → Tied (by (answered (cond b (withCore chip (afterRamWrite k address)) chip) Done) (set ram address value) queues []) (record { next = chips.writePcmRam slots address value w; answer = list.replies list.done })
-      go true e = made _ _ (world-ram k queues (held .sized) version ram address value e) refl refl refl allowed (cores.ram-kept k version n accepted address .sized) (held .long) ok
-      go false e = made _ _ (past e) refl refl refl allowed (held .sized) (held .long) ok
+      go true e = made _ _ (world-ram k queues (held .sized) version ram address value e) refl allowed (cores.ram-kept k version n accepted address .sized) (held .long) ok
+      go false e = made _ _ (past e) refl allowed (held .sized) (held .long) ok

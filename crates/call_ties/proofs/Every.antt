@@ -1,5 +1,5 @@
 -- Each call of the list on a good world: what the code does is what the list's call does. Assumes nothing.
-use Rattle.plain_chip.specs.Models.{slots}
+use Rattle.slots.specs.Models.{slots}
 use Rattle.call_lists.specs.Calls.{Call, reset, setVersion, resetChannel, writeRegister, readRegister, peekRegister, writeChannelControl, readChannelControl, writeChannelPcmReg, readChannelPcmReg, writeChannelWavetable, readChannelWavetable, wavetableLength, interpolates, writePcmRam, readPcmRam, generateSample, clock, clockMixed, clockMixedInto, clockMixedIntoI32, writeHead, readHead, writeVoice, readVoice, run}
 use Rattle.call_lists.specs.Seen.{FitCall}
 use Rattle.session_texts.specs.Session.{session}

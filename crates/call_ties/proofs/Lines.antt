@@ -33,13 +33,11 @@ use Rattle.session.specs.Heads.{writeHeadAnswer, writeHeadText, headCalled, rea
 use Rattle.session.specs.Voices.{lineOf, writeVoiceAnswer, writeVoiceText, loadedCore, loadedQueues, voiceCalled, voiceQueues, readVoiceCalled, readVoiceQueues}
 use Rattle.session.proofs.Lines.{goes-on}
 use Rattle.session.proofs.Loaded.{loaded-changed, queue-own, queue-others, length-loaded}
-use Rattle.plain_chip.specs.Slots.{Slot}
-use Rattle.plain_chip.specs.Voices.{plainOf, slotLoaded}
-use Rattle.plain_chip.specs.Models.{slots}
-use Rattle.plain_chip.specs.Chips as chips
-use Rattle.plain_chip.specs.Chips.{World}
+use Rattle.slots.specs.Slots.{Slot, plainOf, slotLoaded}
+use Rattle.slots.specs.Models.{slots, World}
 use Rattle.plain_chip.specs.Good.{FitVoice}
-use Rattle.plain_chip.proofs.Slots.{slots-plain}
+use Rattle.slots.proofs.Slots.{slots-plain}
+use Rattle.plain_chip.specs.Chips as chips
 use Rattle.plain_chip.proofs.Calls as oks
 use Rattle.chip_slots.specs.Whole.{slotWith, slotAt, slotsOf}
 use Rattle.chip_slots.proofs.Puts.{slot-at, one-changed}
@@ -85,8 +83,8 @@ module _ (chip : Chip) (ram : List ℕ) (queues : List ℤ) (held : Held chip ra
     where
       go : (b : Bool) → Tied (wroteBy chip ram queues (answers.wrote (cond b (lines.Length (length text)) lines.TextBuffer)) (cond b (sets out 0 text) out))
           (list.gives slots session w (cond b (record { reply = list.count (length text); sides = []; text = sets out 0 text; values = [] }) (record { reply = list.refused (15 ∷ []); sides = []; text = out; values = [] })))
-      go true = record { next = refl; reply = refl; sides = refl; text = refl; held = held }
-      go false = record { next = refl; reply = refl; sides = refl; text = refl; held = held }
+      go true = record { next = refl; answer = refl; held = held }
+      go false = record { next = refl; answer = refl; held = held }
 
   wrote-as : (a b : LineAnswer) (x y : List ℕ) (z : Ran World list.Answer) → a ≡ b → x ≡ y → Tied (wroteBy chip ram queues b y) z → Tied (wroteBy chip ram queues a x) z
   wrote-as a b x y z e f t = subst (λ (p : List ℕ). Tied (wroteBy chip ram queues a p) z) (sym f) (subst (λ (c : LineAnswer). Tied (wroteBy chip ram queues c y) z) (sym e) t)
@@ -117,8 +115,8 @@ module _ (chip : Chip) (ram : List ℕ) (queues : List ℤ) (held : Held chip ra
 
   head-told : (r : HeadLine) → Tied (readBy (headCalled chip r) ram queues) (list.headTold slots session w (headRead r))
   unfolding run
-  head-told (heads.Version other) = let t = tied-version session chip ram queues held other in record { next = t .next; reply = refl; sides = refl; text = refl; held = t .held }
-  head-told (heads.Malformed field) = record { next = refl; reply = refl; sides = refl; text = refl; held = held }
+  head-told (heads.Version other) = let t = tied-version session chip ram queues held other in record { next = t .next; answer = refl; held = t .held }
+  head-told (heads.Malformed field) = record { next = refl; answer = refl; held = held }
 
   pub tied-read-head : (text : List ℕ) → Tied (readBy (readHeadCalled chip text) ram queues) (ran (list.readHead text))
   unfolding readHeadCalled run
@@ -142,12 +140,12 @@ module _ (chip : Chip) (ram : List ℕ) (queues : List ℤ) (held : Held chip ra
 
     voice-loaded : Tied (readBy (voiceCalled chip r) ram (voiceQueues queues r)) (list.voiceTold slots session w (voiceRead r))
     voice-loaded =
-        made _ _ (λ i. record { version = version; ram = ram; voices = slots-loaded i }) refl refl refl (held .allowed) (loaded-changed r ch here k (held .sized) .sized) (length-loaded r ch here queues ∙ held .long)
+        made _ _ (λ i. record { version = version; ram = ram; voices = slots-loaded i }) refl (held .allowed) (loaded-changed r ch here k (held .sized) .sized) (length-loaded r ch here queues ∙ held .long)
         (oks.ok-load slots-plain w (held .good) ch (fieldsOf (voiceOf f)) fit)
 
   voice-told : (l : ReadLine) → Told version (voiceRead (voiceFrom l)) → Tied (readBy (voiceCalled chip (voiceFrom l)) ram (voiceQueues queues (voiceFrom l))) (list.voiceTold slots session w (voiceRead (voiceFrom l)))
   voice-told (line ns) t = voice-loaded (at ns) (t .0) (t .1)
-  voice-told (reading.malformed ns field) t = record { next = refl; reply = refl; sides = refl; text = refl; held = held }
+  voice-told (reading.malformed ns field) t = record { next = refl; answer = refl; held = held }
 
   pub tied-read-voice : (text : List ℕ) → Tied (readBy (readVoiceCalled chip queues text) ram (readVoiceQueues chip queues text)) (ran (list.readVoice text))
   unfolding readVoiceCalled readVoiceQueues readVoice run

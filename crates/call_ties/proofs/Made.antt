@@ -21,16 +21,18 @@ use Rattle.voices.proofs.Accepting.{accepted-core}
 use Rattle.frames.proofs.Parts.{part-length}
 use Rattle.s3w2.specs.Chips.{freshChip}
 use Rattle.s3w2.proofs.Kept.{part-fits}
-use Rattle.plain_chip.specs.Slots.{freshSlot}
-use Rattle.plain_chip.specs.Voices.{PlainVoice, plainOf, freshVoice}
-use Rattle.plain_chip.specs.Chips.{plain, freshPlain}
-use Rattle.plain_chip.specs.Good.{Bytes, SlotOk, AcceptedSlot}
-use Rattle.plain_chip.proofs.Fits.{bytes-replicate}
-use Rattle.plain_chip.proofs.Writes.{same-fresh, ok-fresh}
+use Rattle.slots.specs.Slots.{freshSlot, plainOf}
+use Rattle.plain_chip.specs.Voices.{PlainVoice, freshVoice}
+use Rattle.slots.specs.Models.{plain}
+use Rattle.plain_chip.specs.Chips.{freshPlain}
+use Rattle.plain_chip.specs.Good.{Bytes}
+use Rattle.slots.specs.Good.{SlotOk, AcceptedSlot}
+use Rattle.plain_chip.proofs.Lists.{bytes-replicate}
+use Rattle.slots.proofs.Writes.{same-fresh, ok-fresh}
 use Rattle.chip_slots.specs.Whole.{slotWith, slotAt, slotsOf, worldOf}
 use Rattle.chip_slots.proofs.Rows.{row-same, row-all, every-row, map-row}
 use Rattle.chip_slots.proofs.Puts.{length-slots}
-use Rattle.call_lists.specs.Seen.{Accepted}
+use Rattle.call_lists.specs.Second.{Accepted}
 use Rattle.call_ties.specs.Ties.{Held, Typed}
 
 -- ---- parts of what is in range

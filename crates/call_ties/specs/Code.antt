@@ -11,10 +11,11 @@ use Rattle.s3w2.specs.Mixing.{mixedCalled, mixedLeft, mixedRight, clockMixedCal
 use Rattle.session.specs.Heads.{writeHeadAnswer, writeHeadText, readHeadCalled}
 use Rattle.session.specs.Voices.{writeVoiceAnswer, writeVoiceText, readVoiceCalled, readVoiceQueues}
 use Rattle.call_lists.specs.Runs.{Ran}
-use Rattle.call_lists.specs.Calls.{Call, reset, setVersion, resetChannel, writeRegister, readRegister, peekRegister, writeChannelControl, readChannelControl, writeChannelPcmReg, readChannelPcmReg, writeChannelWavetable, readChannelWavetable, wavetableLength, interpolates, writePcmRam, readPcmRam, generateSample, clock, clockMixed, clockMixedInto, clockMixedIntoI32, writeHead, readHead, writeVoice, readVoice}
-use Rattle.call_ties.specs.Ties.{Machine, Heard, by, told, wroteBy, readBy}
+use Rattle.call_lists.specs.Calls.{Answer, Call, reset, setVersion, resetChannel, writeRegister, readRegister, peekRegister, writeChannelControl, readChannelControl, writeChannelPcmReg, readChannelPcmReg, writeChannelWavetable, readChannelWavetable, wavetableLength, interpolates, writePcmRam, readPcmRam, generateSample, clock, clockMixed, clockMixedInto, clockMixedIntoI32, writeHead, readHead, writeVoice, readVoice}
+use Rattle.call_ties.specs.Ties.{Machine, by, sounded, told, wroteBy, readBy}
+use Rattle.call_ties.specs.Values.{sampleCallValues, clockCallValues, mixedCallValues, clockMixedCallValues}
 
-unfoldable pub code : Machine → Call → Ran Machine Heard
+unfoldable pub code : Machine → Call → Ran Machine Answer
 code m reset = by (resetCalled (m .chip) (length (m .ram))) (resetRam (m .chip) (m .ram)) (m .queues) []
 code m (setVersion version) = by (setVersionCalled (m .chip) version) (m .ram) (m .queues) []
 code m (resetChannel ch) = by (resetChannelCalled (m .chip) ch) (m .ram) (m .queues) []
@@ -32,17 +33,22 @@ code m (wavetableLength ch) = told (m .chip) (m .ram) (m .queues) (wavetableLeng
 code m (interpolates ch) = told (m .chip) (m .ram) (m .queues) (interpolatesAnswer (m .chip) ch)
 code m (writePcmRam address value) = by (writePcmRamCalled (m .chip) (length (m .ram)) address) (writePcmRamRam (m .chip) (m .ram) address value) (m .queues) []
 code m (readPcmRam address) = told (m .chip) (m .ram) (m .queues) (readPcmRamAnswer (m .chip) (m .ram) address)
-code m (generateSample ch) = by (generateSampleCalled (m .chip) (m .ram) (m .queues) ch) (m .ram) (m .queues) []
-code m (clock n stems) = by (clockCalled (m .chip) (m .ram) (m .queues) n (length stems)) (m .ram) (m .queues) (clockStems (m .chip) (m .ram) (m .queues) n stems ∷ [])
+code m (generateSample ch) = sounded (generateSampleCalled (m .chip) (m .ram) (m .queues) ch) (m .ram) (m .queues) [] (sampleCallValues (m .chip) (m .ram) (m .queues) ch)
+code m (clock n stems) =
+    sounded (clockCalled (m .chip) (m .ram) (m .queues) n (length stems)) (m .ram) (m .queues) (clockStems (m .chip) (m .ram) (m .queues) n stems ∷ [])
+    (clockCallValues (m .chip) (m .ram) (m .queues) n (length stems))
 code m (clockMixed left right) =
-    by (clockMixedCalled (m .chip) (m .ram) (m .queues) left right) (m .ram) (m .queues)
+    sounded (clockMixedCalled (m .chip) (m .ram) (m .queues) left right) (m .ram) (m .queues)
     (clockMixedLeft (m .chip) (m .ram) (m .queues) left right ∷ clockMixedRight (m .chip) (m .ram) (m .queues) left right ∷ [])
+    (clockMixedCallValues (m .chip) (m .ram) (m .queues) left right)
 code m (clockMixedInto left right) =
-    by (mixedCalled saturating (m .chip) (m .ram) (m .queues) left right) (m .ram) (m .queues)
+    sounded (mixedCalled saturating (m .chip) (m .ram) (m .queues) left right) (m .ram) (m .queues)
     (mixedLeft saturating (m .chip) (m .ram) (m .queues) left right ∷ mixedRight saturating (m .chip) (m .ram) (m .queues) left right ∷ [])
+    (mixedCallValues (m .chip) (m .ram) (m .queues) saturating left right)
 code m (clockMixedIntoI32 left right) =
-    by (mixedCalled wrapping (m .chip) (m .ram) (m .queues) left right) (m .ram) (m .queues)
+    sounded (mixedCalled wrapping (m .chip) (m .ram) (m .queues) left right) (m .ram) (m .queues)
     (mixedLeft wrapping (m .chip) (m .ram) (m .queues) left right ∷ mixedRight wrapping (m .chip) (m .ram) (m .queues) left right ∷ [])
+    (mixedCallValues (m .chip) (m .ram) (m .queues) wrapping left right)
 code m (writeHead out) = wroteBy (m .chip) (m .ram) (m .queues) (writeHeadAnswer (m .chip) out) (writeHeadText (m .chip) out)
 code m (readHead text) = readBy (readHeadCalled (m .chip) text) (m .ram) (m .queues)
 code m (writeVoice ch out) = wroteBy (m .chip) (m .ram) (m .queues) (writeVoiceAnswer (m .chip) (m .queues) ch out) (writeVoiceText (m .chip) (m .queues) ch out)

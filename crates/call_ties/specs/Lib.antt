@@ -1,2 +1,3 @@
 pub mod Ties
+pub mod Values
 pub mod Code

@@ -19,8 +19,9 @@ use Rattle.session.specs.Answers.{numbersOf}
 use Rattle.session.specs.declared.LineAnswer.{LineAnswer}
 use Rattle.session.specs.declared.LineAnswer.the-variants as lines
 use Rattle.session.specs.declared.LineCalled.{LineCalled}
-use Rattle.plain_chip.specs.Chips.{World}
-use Rattle.plain_chip.specs.Good.{Bytes, FitChannel, WorldOk}
+use Rattle.slots.specs.Models.{World}
+use Rattle.plain_chip.specs.Good.{Bytes}
+use Rattle.slots.specs.Good.{FitChannel, WorldOk}
 use Rattle.chip_slots.specs.Whole.{worldOf}
 use Rattle.call_lists.specs.Runs.{Ran}
 use Rattle.call_lists.specs.Calls as list
@@ -44,19 +45,14 @@ pub record Typed (k : Core) (queues : List ℤ) : Type 0 where
   pub bytes : Bytes (k .wavetables)
   pub entries : FitEntries queues
 
--- ---- what a call leaves: chip, RAM and queue buffer; its answer with the lent stems or sides and the lent text
+-- ---- what a call leaves: chip, RAM and queue buffer
 pub record Machine : Type 0 where
   pub chip : Chip
   pub ram : List ℕ
   pub queues : List ℤ
 
-pub record Heard : Type 0 where
-  pub reply : Reply
-  pub sides : List (List ℤ)
-  pub text : List ℕ
-
-abbrev pub left : Chip → List ℕ → List ℤ → Reply → List (List ℤ) → List ℕ → Ran Machine Heard
-left chip ram queues reply sides text = record { next = record { chip = chip; ram = ram; queues = queues }; answer = record { reply = reply; sides = sides; text = text } }
+abbrev pub left : Chip → List ℕ → List ℤ → list.Answer → Ran Machine list.Answer
+left chip ram queues answer = record { next = record { chip = chip; ram = ram; queues = queues }; answer = answer }
 
 -- the list's reply that an answer is
 abbrev pub replyOf : Answer → Reply
@@ -70,13 +66,17 @@ replyOf QueueBuffer = refused (numberOf QueueBuffer)
 replyOf NotAccepted = refused (numberOf NotAccepted)
 replyOf StemBuffer = refused (numberOf StemBuffer)
 
--- a call without a text
-abbrev pub by : Called → List ℕ → List ℤ → List (List ℤ) → Ran Machine Heard
-by called ram queues sides = left (called .chip) ram queues (replyOf (called .answer)) sides []
+-- a call without a text: the lent stems or sides as it left them
+abbrev pub by : Called → List ℕ → List ℤ → List (List ℤ) → Ran Machine list.Answer
+by called ram queues sides = left (called .chip) ram queues (list.plays (replyOf (called .answer)) sides [])
+
+-- one that ticks, with the values ahead of the volume of its ticks
+abbrev pub sounded : Called → List ℕ → List ℤ → List (List ℤ) → List ℤ → Ran Machine list.Answer
+sounded called ram queues sides values = left (called .chip) ram queues (list.plays (replyOf (called .answer)) sides values)
 
 -- a call that only tells
-abbrev pub told : Chip → List ℕ → List ℤ → Answer → Ran Machine Heard
-told chip ram queues answer = left chip ram queues (replyOf answer) [] []
+abbrev pub told : Chip → List ℕ → List ℤ → Answer → Ran Machine list.Answer
+told chip ram queues answer = left chip ram queues (list.replies (replyOf answer))
 
 -- ---- a session's lines
 abbrev pub lineReply : LineAnswer → Reply
@@ -88,17 +88,15 @@ lineReply lines.TextBuffer = refused (numbersOf lines.TextBuffer)
 lineReply (lines.Malformed field) = refused (numbersOf (lines.Malformed field))
 
 -- one written to a lent text
-abbrev pub wroteBy : Chip → List ℕ → List ℤ → LineAnswer → List ℕ → Ran Machine Heard
-wroteBy chip ram queues answer text = left chip ram queues (lineReply answer) [] text
+abbrev pub wroteBy : Chip → List ℕ → List ℤ → LineAnswer → List ℕ → Ran Machine list.Answer
+wroteBy chip ram queues answer text = left chip ram queues (record { reply = lineReply answer; sides = []; text = text; values = [] })
 
 -- one read
-abbrev pub readBy : LineCalled → List ℕ → List ℤ → Ran Machine Heard
-readBy called ram queues = left (called .chip) ram queues (lineReply (called .answer)) [] []
+abbrev pub readBy : LineCalled → List ℕ → List ℤ → Ran Machine list.Answer
+readBy called ram queues = left (called .chip) ram queues (list.replies (lineReply (called .answer)))
 
 -- ---- the list's call leaves and answers the same, and the next call can be made
-pub record Tied (y : Ran Machine Heard) (x : Ran World list.Answer) : Type 0 where
+pub record Tied (y : Ran Machine list.Answer) (x : Ran World list.Answer) : Type 0 where
   pub next : world (y .next .chip) (y .next .ram) (y .next .queues) ≡ x .next
-  pub reply : y .answer .reply ≡ x .answer .reply
-  pub sides : y .answer .sides ≡ x .answer .sides
-  pub text : y .answer .text ≡ x .answer .text
+  pub answer : y .answer ≡ x .answer
   pub held : Held (y .next .chip) (y .next .ram) (y .next .queues)

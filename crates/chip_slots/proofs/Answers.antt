@@ -15,12 +15,11 @@ use Rattle.registers.specs.Pcm.{readPcm}
 use Rattle.voices.specs.Addresses.{channelOf, offsetOf}
 use Rattle.voices.specs.Reads.{readChannelControl, readChannelPcmReg, readWavetable, peekRegister, wavetableLength, interpolatesAt}
 use Rattle.voices.specs.declared.Core.{Core}
-use Rattle.plain_chip.specs.Slots.{Slot, emptySlot}
-use Rattle.plain_chip.specs.Voices.{plainOf, plainRead}
-use Rattle.plain_chip.proofs.Writes.{same-read}
-use Rattle.plain_chip.specs.Models.{slots}
+use Rattle.slots.specs.Slots.{Slot, emptySlot, plainOf}
+use Rattle.plain_chip.specs.Voices.{plainRead}
+use Rattle.slots.proofs.Writes.{same-read}
+use Rattle.slots.specs.Models.{slots, World}
 use Rattle.plain_chip.specs.Chips as chips
-use Rattle.plain_chip.specs.Chips.{World}
 use Rattle.chip_slots.specs.Whole.{slotAt, slotsOf, worldOf}
 use Rattle.chip_slots.proofs.Puts.{slot-at}
 

@@ -11,7 +11,7 @@ use Rattle.voices.specs.Accepted.{SizedCore}
 use Rattle.voices.specs.Own.{Voice, voice, voiceAt, queueAt, Changed, ChangedAll}
 use Rattle.voices.specs.declared.Core.{Core}
 use Rattle.voices.proofs.Widths.{width-own, width-other}
-use Rattle.plain_chip.specs.Slots.{Slot, emptySlot}
+use Rattle.slots.specs.Slots.{Slot, emptySlot}
 use Rattle.plain_chip.specs.Lists.{adjust}
 use Rattle.chip_slots.specs.Whole.{slotWith, slotAt, slotsOf}
 use Rattle.chip_slots.proofs.Rows.{length-row, row-at, row-set, row-same, map-row}

@@ -23,12 +23,11 @@ use Rattle.voices.specs.Own.{Voice, voiceAt, voiceStored, voiceReset}
 use Rattle.voices.specs.declared.Core.{Core}
 use Rattle.voices.proofs.Chosen.{reset-out, read-out, write-out, write-pcm-out, queues-out}
 use Rattle.voices.proofs.Voices.{control-changed, pcm-changed, read-changed, reset-changed, wavetable-changed, version-changed, ram-changed, queue-own, queue-others, fresh-sized, fresh-voice}
-use Rattle.plain_chip.specs.Slots.{Slot, emptySlot, slotWriteControl, slotWritePcm, slotAfterRead, slotWriteWave, slotReset, slotSetVersion, slotPoked}
+use Rattle.slots.specs.Slots.{Slot, emptySlot, slotWriteControl, slotWritePcm, slotAfterRead, slotWriteWave, slotReset, slotSetVersion, slotPoked}
 use Rattle.plain_chip.specs.Lists.{adjust}
-use Rattle.plain_chip.specs.Models.{slots}
+use Rattle.slots.specs.Models.{slots, World}
+use Rattle.slots.proofs.Writes.{choice}
 use Rattle.plain_chip.specs.Chips as chips
-use Rattle.plain_chip.specs.Chips.{World}
-use Rattle.plain_chip.proofs.Writes.{choice}
 use Rattle.chip_slots.specs.Whole.{slotWith, slotsOf, worldOf}
 use Rattle.chip_slots.proofs.Puts.{none-changed, one-changed, all-changed}
 

@@ -1,5 +1,5 @@
 -- A tick of a voice where it stands in the core is a tick of that voice of the world. Assumes nothing.
-use mathlib.Core.Path.{_≡_, sym, ap, _∙_}
+use mathlib.Core.Path.{_≡_, refl, sym, ap, _∙_}
 use mathlib.Core.Bool.{Bool, true, false, cond}
 use mathlib.Core.List.{List}
 use Prim.Native.Nat.{ℕ, _+_, _*_, _%_, _<_}
@@ -17,7 +17,7 @@ use Rattle.registers.specs.Control.{targetChannel}
 use Rattle.registers.specs.declared.Registers.{Registers}
 use Rattle.ticks.specs.Oscillators.{targetFrom}
 use Rattle.ticks.specs.Settings.{settingOf}
-use Rattle.ticks.specs.Sounds.{targetFor, soundTicks}
+use Rattle.ticks.specs.Sounds.{targetFor, soundTicks, soundValue}
 use Rattle.ticks.specs.Queues.{queueTicks}
 use Rattle.ticks.specs.declared.Sides.{Sides}
 use Rattle.ticks.specs.declared.Target.{Target}
@@ -33,13 +33,16 @@ use Rattle.voice.specs.declared.StreamSound.{StreamSound}
 use Rattle.voices.specs.Core.{noChannel, channelAt}
 use Rattle.voices.specs.Accepted.{SizedCore}
 use Rattle.voices.specs.declared.Core.{Core}
-use Rattle.frames.specs.Ticking.{Voiced, voiced, seen, ticksAs, voiceTick}
+use Rattle.frames.specs.Ticking.{Voiced, voiced, seen, streamFrom, ticksAs, voiceTick}
+use Rattle.frames.specs.Values.{valueAs, tickValue}
 use Rattle.frames.proofs.Parts.{part-back}
-use Rattle.plain_chip.specs.Slots.{Slot, emptySlot}
-use Rattle.plain_chip.specs.Models.{slots}
-use Rattle.plain_chip.specs.Ticks.{VoiceTick, slotSound, slotStream, slotFifo, slotTickAs, slotTick}
+use Rattle.frames.proofs.Heard.{stream-here}
+use Rattle.slots.specs.Slots.{Slot, emptySlot}
+use Rattle.slots.specs.Models.{slots}
+use Rattle.plain_chip.specs.Ticks.{VoiceTick}
+use Rattle.slots.specs.Ticks.{slotSound, slotStream, slotFifo, slotTickAs, slotTick}
+use Rattle.slots.proofs.Tables.{mask-small, own-table, own-target, own-value, target-itself}
 use Rattle.plain_chip.specs.Frames as plays
-use Rattle.plain_chip.proofs.Tables.{mask-small, own-table, own-target}
 use Rattle.chip_slots.specs.Whole.{slotAt, slotsOf}
 use Rattle.chip_slots.proofs.Puts.{putCore, slot-at}
 
@@ -107,14 +110,9 @@ module _ (version : SguVersion) (ram : List ℕ) (q : List ℤ) (ch : ℕ) (here
       λ i. voiced (record { channels = set (k .channels) ch (afterQueue c r); fragments = fragments-back i; wavetables = wavetable-back i }) (r .sides)
 
   stream : ticksAs version ram q ch 1 Sqv4 (voiced k sides) c ≡ put (slotTickAs version ram t sides Sqv4 s)
-  unfolding slotStream streamTicksAt
+  unfolding slotStream
   stream =
-      let l = k .fragments in
-      let p = playOf c version in
-      let v : StreamSound = record { voice = record { cache = c .stream; phase = c .oscillator .phase; active = true; q8 = pos 0 }; sides = sides } in
-      let r : Lent = placedAt (ch * 128) l (streamTicks 1 ram p (c .registers .volume) (c .registers .panpot) (lent v (part l (ch * 128) 128))) in
-      let e : cond (leb (ch * 128 + 128) (length l)) r (lent v l) ≡ r =
-      ap (λ (b : Bool). cond b r (lent v l)) (le-leb (ch * 128 + 128) (length l) (omega (arith, sized .fragments))) in
+      let e = stream-here version ram q ch here k sized sides in
       λ i. voiced (record { channels = set (k .channels) ch (afterStream c (e i .sound)); fragments = e i .samples; wavetables = wavetable-back i }) (e i .sound .sides)
 
   -- ---- the tick
@@ -127,3 +125,25 @@ module _ (version : SguVersion) (ram : List ℕ) (q : List ℤ) (ch : ℕ) (here
   pub tick-put : voiceTick version ram q ch (voiced k sides) ≡ put (slotTick version ram (plays.seen slots version ram (slotsOf k q) ch) sides s)
   unfolding voiceTick slotTick
   tick-put = by-kind (kindOf c) ∙ ap (λ (u : Target). put (slotTickAs version ram u sides (kindOf c) s)) same-seen
+
+  -- ---- its value ahead of the volume
+  value-sound : valueAs version ram q ch kinds.Oscillator (voiced k sides) c ≡ slotTickAs version ram t sides kinds.Oscillator s .value
+  unfolding slotSound
+  value-sound =
+      let w = c .registers .«waveform_type» in
+      let set = settingOf (c .registers) (c .pcm .«sample_control») version in
+      let n : ch % 8 ≡ ch = omega arith in
+      ap (λ (u : Target). soundValue w set (c .pcm) (k .wavetables) ram ch u (c .oscillator)) (target-itself (eqb (targetChannel (c .registers) ch) ch) t (c .oscillator) itself)
+      ∙ own-value set (mask-small version (c .pcm .«sample_control»)) (c .pcm) (k .wavetables) ram ch w t (c .oscillator)
+      ∙ ap (λ (m : ℕ). soundValue w set (c .pcm) (part (k .wavetables) (m * 256) 256) ram 0 t (c .oscillator)) n
+
+  value-by : (m : Kind) → valueAs version ram q ch m (voiced k sides) c ≡ slotTickAs version ram t sides m s .value
+  unfolding slotStream slotFifo
+  value-by Silent = refl
+  value-by kinds.Oscillator = value-sound
+  value-by Sqv4 = ap (λ (r : Lent). r .sound .voice .q8) (stream-here version ram q ch here k sized sides)
+  value-by FifoDac = refl
+
+  pub tick-value : tickValue version ram q ch (voiced k sides) ≡ slotTick version ram (plays.seen slots version ram (slotsOf k q) ch) sides s .value
+  unfolding tickValue slotTick
+  tick-value = value-by (kindOf c) ∙ ap (λ (u : Target). slotTickAs version ram u sides (kindOf c) s .value) same-seen

@@ -5,8 +5,8 @@ use lib.IntN.{ℤ}
 use Rattle.version.specs.declared.SguVersion.{SguVersion}
 use Rattle.voices.specs.Own.{Voice, voiceAt, queueAt}
 use Rattle.voices.specs.declared.Core.{Core}
-use Rattle.plain_chip.specs.Slots.{Slot}
-use Rattle.plain_chip.specs.Chips.{World}
+use Rattle.slots.specs.Slots.{Slot}
+use Rattle.slots.specs.Models.{World}
 
 -- f 0, f 1, .. : n of them
 abbrev pub row : {A : Type 0} → ℕ → (ℕ → A) → List A

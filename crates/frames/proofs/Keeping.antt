@@ -21,7 +21,8 @@ use Rattle.registers.proofs.Accepted.{tick-accepted}
 use Rattle.registers.specs.Waveforms.{isSqv4}
 use Rattle.stream.specs.Accepted.{acceptsCache}
 use Rattle.stream.specs.Cache.{Stock, stock}
-use Rattle.stream.specs.Tick.{Found, absent, unheard, present, planOf, playedBy, tickOf, cachedFound, cachedTick}
+use Rattle.stream.specs.Tick.{Found, absent, unheard, present, planOf, playedBy, tickOf}
+use Rattle.stream.specs.Cached.{cachedFound, cachedTick}
 use Rattle.stream.specs.declared.Plan.{Plan}
 use Rattle.stream.specs.declared.Plan.the-variants.{Stop, Sample}
 use Rattle.stream.specs.declared.Play.{Play}

@@ -10,3 +10,4 @@ pub mod Loop
 pub mod Asks
 pub mod Framing
 pub mod Wells
+pub mod Heard

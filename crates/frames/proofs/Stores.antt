@@ -27,7 +27,8 @@ use Rattle.ticks.specs.declared.Setting.{Setting}
 use Rattle.ticks.specs.declared.Sides.{Sides}
 use Rattle.ticks.specs.declared.Sound.{Sound}
 use Rattle.ticks.specs.declared.Target.{Target}
-use Rattle.voice.specs.Sounding.{kindOf, soundingOf, playOf, afterSound, afterQueue, afterStream}
+use Rattle.voice.specs.Sounding.{kindOf, playOf, afterSound, afterQueue, afterStream}
+use Rattle.voice.specs.Kinds.{soundingOf}
 use Rattle.voice.specs.Streaming.{Lent, lent}
 use Rattle.voice.specs.declared.Channel.{Channel}
 use Rattle.voice.specs.declared.Kind.{Kind}

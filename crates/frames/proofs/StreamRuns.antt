@@ -12,7 +12,8 @@ use Rattle.num.specs.Lists.{part}
 use Rattle.num.proofs.Choice.{cond-by}
 use Rattle.stream.specs.Cache.{Stock, stock}
 use Rattle.stream.specs.Accepted.{acceptsCache}
-use Rattle.stream.specs.Tick.{Ticked, unheard, cachedTick}
+use Rattle.stream.specs.Tick.{Ticked, unheard}
+use Rattle.stream.specs.Cached.{cachedTick}
 use Rattle.stream.specs.declared.Play.{Play}
 use Rattle.stream.proofs.Accepts.{accepts-free}
 use Rattle.stream.proofs.Founds.{found-short, found-odd, tick-by}

@@ -31,7 +31,8 @@ use Rattle.stream.specs.Accepted.{acceptsCache}
 use Rattle.voice.specs.Accepted.{AcceptedChannel}
 use Rattle.voice.specs.Channel.{setPcm}
 use Rattle.voice.specs.Serving.{servedTicks}
-use Rattle.voice.specs.Sounding.{kindOf, soundingOf, playOf, soundOf, afterSound, queueSoundOf, afterQueue, windowAt, servedOf, afterServed, streamSoundOf, afterStream}
+use Rattle.voice.specs.Sounding.{kindOf, playOf, soundOf, afterSound, queueSoundOf, afterQueue, windowAt, servedOf, afterServed, streamSoundOf, afterStream}
+use Rattle.voice.specs.Kinds.{soundingOf}
 use Rattle.voice.specs.Streaming.{Lent, lent, streamTicksAt}
 use Rattle.voice.specs.declared.Channel.{Channel}
 use Rattle.voice.specs.declared.Kind.{Kind}

@@ -1,3 +1,4 @@
 pub mod Ticking
 pub mod Turning
+pub mod Values
 pub mod Kept

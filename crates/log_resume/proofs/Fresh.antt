@@ -12,7 +12,8 @@ use Rattle.voices.proofs.Voices.{fresh-sized}
 use Rattle.voices.proofs.Accepting.{fresh-accepted, core-accepted}
 use Rattle.s3w2.specs.Chips.{freshChip}
 use Rattle.s3w2.specs.Fresh.{madeCalled}
-use Rattle.plain_chip.proofs.Fits.{bytes-replicate, entries-replicate}
+use Rattle.plain_chip.proofs.Lists.{bytes-replicate}
+use Rattle.slots.proofs.Fits.{entries-replicate}
 use Rattle.chip_slots.proofs.Frames.{ok-at}
 use Rattle.log_player.specs.Worlds.{freshWorld}
 use Rattle.call_ties.specs.Ties.{Machine, Held, Typed}

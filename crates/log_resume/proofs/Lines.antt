@@ -20,7 +20,7 @@ use Rattle.log_player.specs.Logs.{malformed}
 use Rattle.call_lists.specs.Calls as list
 use Rattle.call_lists.specs.Calls.{Call, Reply}
 use Rattle.call_lists.specs.Seen.{FitCall}
-use Rattle.call_ties.specs.Ties.{Machine, Heard, replyOf}
+use Rattle.call_ties.specs.Ties.{Machine, replyOf}
 use Rattle.call_ties.specs.Code.{code}
 use Rattle.resume.proofs.Alike.{Alike, same-answer, still-alike}
 use Rattle.log_resume.specs.Cuts.{machineOf}
@@ -81,7 +81,7 @@ framesIn [] = []
 framesIn (left ∷ []) = []
 framesIn (left ∷ right ∷ l) = frameLines left right (min (length left) (length right))
 
-abbrev textOf : Line → Heard → List ℕ
+abbrev textOf : Line → list.Answer → List ℕ
 textOf (Write a v) h = []
 textOf (WriteRam a v) h = []
 textOf (Read a) h = readLine 82 a (byteIn (h .reply))

@@ -13,8 +13,9 @@ use Rattle.session.specs.declared.LineCalled.{LineCalled}
 use Rattle.session.specs.Heads.{readHeadCalled}
 use Rattle.session.specs.Voices.{lineOf, voiceCalled, readVoiceCalled, readVoiceQueues}
 use Rattle.session.proofs.Lines.{goes-on}
-use Rattle.plain_chip.specs.Voices.{PlainVoice, plainOf}
-use Rattle.plain_chip.proofs.Loads.{fit-plain}
+use Rattle.plain_chip.specs.Voices.{PlainVoice}
+use Rattle.slots.specs.Slots.{plainOf}
+use Rattle.slots.proofs.Loads.{fit-plain}
 use Rattle.chip_slots.specs.Whole.{row, slotAt}
 use Rattle.chip_slots.proofs.Frames.{ok-at}
 use Rattle.call_lists.specs.Runs.{after}

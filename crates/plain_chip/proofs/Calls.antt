@@ -17,8 +17,7 @@ use Rattle.plain_chip.specs.Models.{Model}
 use Rattle.plain_chip.specs.Frames.{Played}
 use Rattle.plain_chip.specs.Chips.{Chip, withVoices, channelOf, offsetOf, isControl, voiceAt, changed, loadVoice, reset, setVersion, resetChannel, writeChannelControl, writeChannelPcmReg, writeChannelWavetable, afterReadChannel, readChannelControl, readChannelPcmReg, readChannelWavetable, wavetableLength, interpolatesAt, writeRegister, peekRegister, afterReadRegister, writePcmRam, generated, afterGenerated, clocked, afterClocked}
 use Rattle.plain_chip.specs.Good.{FitVoice, ChipOk}
-use Rattle.plain_chip.proofs.Lists.{every-adjust, every-map, map-adjust, map-all}
-use Rattle.plain_chip.proofs.Fits.{bytes-replicate}
+use Rattle.plain_chip.proofs.Lists.{every-adjust, every-map, map-adjust, map-all, bytes-replicate}
 use Rattle.plain_chip.proofs.Sims.{Sim}
 use Rattle.plain_chip.proofs.Frames.{playedSeen, voice-at, same-turned, keeps-turned, same-frames, keeps-frames, length-turned, length-frames}
 

@@ -1,12 +1,4 @@
 pub mod Lists
-pub mod Kept
-pub mod Fits
-pub mod Writes
-pub mod Pokes
-pub mod Loads
-pub mod Ticks
-pub mod Tables
 pub mod Sims
-pub mod Slots
 pub mod Frames
 pub mod Calls

@@ -1,9 +1,11 @@
 -- A change of one element of a list: what holds of each, and the list seen through a map. Assumes nothing.
 use mathlib.Core.Path.{_≡_, refl, ap}
 use mathlib.Core.List.{List, [], _∷_, map}
-use Prim.Native.Nat.{ℕ, zero, suc}
+use Prim.Native.Nat.{ℕ, zero, suc, _<_}
+use native.Mathlib.Omega.{arith}
 use lib.ListN.{getD, set, replicate}
 use Rattle.plain_chip.specs.Lists.{adjust, Every}
+use Rattle.plain_chip.specs.Good.{Bytes}
 
 module _ {A : Type 0} (P : A → Type 0) where
   pub every-get : (d : A) (l : List A) (k : ℕ) → Every P l → P d → P (getD l k d)
@@ -54,3 +56,12 @@ module _ {A B : Type 0} (g : A → B) where
   pub map-replicate : (x : A) (n : ℕ) → map g (replicate n x) ≡ replicate n (g x)
   map-replicate x zero = refl
   map-replicate x (suc n) = ap (λ (r : List B). g x ∷ r) (map-replicate x n)
+
+-- ---- bytes
+pub bytes-replicate : (n x : ℕ) → x < 256 → Bytes (replicate n x)
+bytes-replicate n x h = record { each = go n }
+  where
+    go : (n i : ℕ) → getD (replicate n x) i 0 < 256
+    go zero i = omega arith
+    go (suc n) zero = h
+    go (suc n) (suc i) = go n i

@@ -8,8 +8,7 @@ use lib.ListN.{length, getD, set, replicate}
 use Rattle.version.specs.Versions.{has3ws8pna, hasSampleControl, interpolates, wavetableMaskOf}
 use Rattle.version.specs.declared.SguVersion.{SguVersion}
 use Rattle.registers.specs.Pcm.{readPcm}
-use Rattle.plain_chip.specs.Slots.{Slot}
-use Rattle.plain_chip.specs.Voices.{PlainVoice, freshVoice, plainOf, plainRead}
+use Rattle.plain_chip.specs.Voices.{PlainVoice, freshVoice, plainRead}
 use Rattle.plain_chip.specs.Models.{Model}
 use Rattle.plain_chip.specs.Frames.{Played, noTurn, turned, frames}
 use Rattle.plain_chip.specs.Lists.{adjust}
@@ -19,15 +18,8 @@ pub record Chip (A : Type 0) : Type 0 where
   pub ram : List ℕ
   pub voices : List A
 
-abbrev pub World : Type 0
-World = Chip Slot
-
 abbrev pub Plain : Type 0
 Plain = Chip PlainVoice
-
--- the plain chip that a chip is
-abbrev pub plain : World → Plain
-plain w = record { version = w .version; ram = w .ram; voices = map plainOf (w .voices) }
 
 -- one just made, over a RAM of that length: the RAM is zeroed
 abbrev pub freshPlain : SguVersion → ℕ → Plain

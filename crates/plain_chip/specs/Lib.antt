@@ -1,4 +1,3 @@
-pub mod Slots
 pub mod Voices
 pub mod Ticks
 pub mod Models

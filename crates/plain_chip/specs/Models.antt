@@ -1,12 +1,11 @@
--- What a chip asks of its voices. The chip's voices (slots) and the plain chip's are the two models.
+-- What a chip asks of its voices, and the plain chip's. The chip's own (crate slots) are another model.
 use mathlib.Core.List.{List}
 use Prim.Native.Nat.{ℕ}
 use Rattle.version.specs.declared.SguVersion.{SguVersion}
 use Rattle.ticks.specs.declared.Sides.{Sides}
 use Rattle.ticks.specs.declared.Target.{Target}
-use Rattle.plain_chip.specs.Slots.{Slot, emptySlot, slotWriteControl, slotWritePcm, slotAfterRead, slotWriteWave, slotReset, slotSetVersion, slotPoked}
-use Rattle.plain_chip.specs.Voices.{PlainVoice, plainOf, slotLoaded, freshVoice, plainWriteControl, plainWritePcm, plainWriteWave, plainAfterRead, plainSetVersion}
-use Rattle.plain_chip.specs.Ticks.{VoiceTick, slotTick, plainVoiceTick}
+use Rattle.plain_chip.specs.Voices.{PlainVoice, freshVoice, plainWriteControl, plainWritePcm, plainWriteWave, plainAfterRead, plainSetVersion}
+use Rattle.plain_chip.specs.Ticks.{VoiceTick, plainVoiceTick}
 
 pub record Model (A : Type 0) : Type 0 where
   -- what stands for a voice that is not there
@@ -23,21 +22,6 @@ pub record Model (A : Type 0) : Type 0 where
   pub afterRead : ℕ → A → A
   pub poked : ℕ → A → A
   pub tick : SguVersion → List ℕ → Target → Sides → A → VoiceTick A
-
-abbrev pub slots : Model Slot
-slots = record {
-  absent = emptySlot;
-  session = plainOf;
-  load = slotLoaded;
-  reset = slotReset;
-  setVersion = slotSetVersion;
-  writeControl = slotWriteControl;
-  writePcm = slotWritePcm;
-  writeWave = slotWriteWave;
-  afterRead = slotAfterRead;
-  poked = slotPoked;
-  tick = slotTick;
-}
 
 -- a RAM write changes nothing of a plain voice, since it has no cache
 abbrev pub plains : Model PlainVoice

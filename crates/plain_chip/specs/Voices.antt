@@ -5,24 +5,20 @@ use mathlib.Core.List.{List, []}
 use Prim.Native.Nat.{ℕ, _-_, _%_}
 use lib.Dec.{eqb, leb}
 use lib.IntN.{pos}
-use lib.ListN.{length, set}
-use lib.Seq.{sets}
+use lib.ListN.{length, set, replicate}
 use Rattle.num.specs.Bits.{byteOf}
 use Rattle.version.specs.Versions.{has3ws8pna, hasSampleControl}
 use Rattle.version.specs.declared.SguVersion.{SguVersion}
 use Rattle.registers.specs.Waveforms.{waveformFrom, under}
 use Rattle.registers.specs.Control.{defaultRegisters, setWaveform, writeRegisters, readRegisters}
 use Rattle.registers.specs.Pcm.{defaultPcm, setSampleControl, writePcm, readPcm}
-use Rattle.registers.specs.Line.{Line, lineOf, linePushed}
+use Rattle.registers.specs.Line.{Line, linePushed}
 use Rattle.registers.specs.declared.Registers.{Registers}
 use Rattle.registers.specs.declared.PcmRegisters.{PcmRegisters}
 use Rattle.registers.specs.declared.WaveformType.{WaveformType}
 use Rattle.ticks.specs.Oscillators.{defaultOscillator, setPhase}
 use Rattle.ticks.specs.declared.Oscillator.{Oscillator}
-use Rattle.stream.specs.Cache.{emptied}
-use Rattle.voice.specs.declared.Channel.{Channel}
-use Rattle.voice.specs.Writes.{sampleOf, oscillatorRestarted}
-use Rattle.plain_chip.specs.Slots.{Slot, freshWavetable}
+use Rattle.voice.specs.Kinds.{sampleOf, oscillatorRestarted}
 
 pub record PlainVoice : Type 0 where
   pub registers : Registers
@@ -31,31 +27,10 @@ pub record PlainVoice : Type 0 where
   pub line : Line
   pub wavetable : List ℕ
 
--- the plain voice that a voice of the chip is
-abbrev pub plainOf : Slot → PlainVoice
-plainOf s = record {
-  registers = s .channel .registers;
-  pcm = s .channel .pcm;
-  oscillator = s .channel .oscillator;
-  line = lineOf (s .queue) (s .channel .fifo);
-  wavetable = s .wavetable;
-}
-
--- ---- a voice with these fields: an empty cache, the queue's head at 0
-abbrev pub channelWith : PlainVoice → Channel
-channelWith v = record {
-  oscillator = v .oscillator;
-  fifo = record { head = 0; count = length (v .line .line); held = v .line .held; hold = v .line .hold; sub = v .line .sub; latch = v .line .latch };
-  stream = emptied;
-  pcm = v .pcm;
-  registers = v .registers;
-}
-
--- what reading them from a session makes of a voice; other entries of the queue are untouched
-unfoldable pub slotLoaded : PlainVoice → Slot → Slot
-slotLoaded v s = record { channel = channelWith v; fragments = s .fragments; wavetable = sets (s .wavetable) 0 (v .wavetable); queue = sets (s .queue) 0 (v .line .line) }
-
 -- ---- a fresh voice
+abbrev pub freshWavetable : List ℕ
+freshWavetable = replicate 256 128
+
 abbrev pub emptyLine : Line
 emptyLine = record { line = []; held = pos 0; hold = 0; sub = 0; latch = 0 }
 

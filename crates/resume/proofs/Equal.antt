@@ -5,11 +5,13 @@ use native.Mathlib.Omega.{arith}
 use lib.ListN.{length, length-map}
 use Rattle.version.specs.declared.SguVersion.{SguVersion}
 use Rattle.plain_chip.specs.Lists.{Every}
-use Rattle.plain_chip.specs.Voices.{PlainVoice, plainOf}
-use Rattle.plain_chip.specs.Chips.{plain}
-use Rattle.plain_chip.specs.Good.{SlotOk, FitVoice}
+use Rattle.plain_chip.specs.Voices.{PlainVoice}
+use Rattle.slots.specs.Slots.{plainOf}
+use Rattle.slots.specs.Models.{plain}
+use Rattle.slots.specs.Good.{SlotOk}
+use Rattle.plain_chip.specs.Good.{FitVoice}
 use Rattle.plain_chip.proofs.Lists.{every-map}
-use Rattle.plain_chip.proofs.Loads.{fit-plain}
+use Rattle.slots.proofs.Loads.{fit-plain}
 use Rattle.call_lists.specs.Seen.{Seen, linesFrom}
 use Rattle.call_lists.proofs.Equal.{same-versions, same-lines}
 use Rattle.session_texts.specs.Session.{session}

@@ -1,7 +1,7 @@
 -- DEMAND 3: a chip stopped anywhere in a list of calls and resumed from its session text, and the plain chip. Assumes nothing.
 use mathlib.Core.Path.{_≡_, sym, ap, _∙_, subst}
 use mathlib.Core.Bool.{true, cond}
-use mathlib.Core.List.{List, map}
+use mathlib.Core.List.{List}
 use Prim.Native.Nat.{ℕ}
 use lib.IntN.{ℤ}
 use lib.ListN.{length, replicate}
@@ -14,25 +14,29 @@ use Rattle.s3w2.specs.Chips.{freshChip}
 use Rattle.s3w2.specs.Fresh.{madeCalled, madeRam}
 use Rattle.s3w2.specs.Refusals.{refusal}
 use Rattle.plain_chip.specs.Lists.{Every}
-use Rattle.plain_chip.specs.Models.{slots, plains}
-use Rattle.plain_chip.specs.Chips.{World, Plain, plain, freshPlain}
-use Rattle.call_lists.specs.Runs.{after}
-use Rattle.call_lists.specs.Calls.{Call, run}
-use Rattle.call_lists.specs.Seen as calls
+use Rattle.slots.specs.Models.{plain}
+use Rattle.plain_chip.specs.Chips.{freshPlain}
+use Rattle.call_lists.specs.Calls.{Call}
 use Rattle.call_lists.specs.Seen.{FitCall}
-use Rattle.call_lists.proofs.Resumes as lists
-use Rattle.session_texts.specs.Session.{session}
-use Rattle.session_texts.proofs.Read.{session-is-ok}
 use Rattle.call_ties.specs.Ties.{Machine}
 use Rattle.call_ties.proofs.Made.{made-held, made-plain}
-use Rattle.resume.specs.Stops.{seen, resumed, made, Second, ofPlain, ofVoices, told, worldOf, stopped, plainStart, plainStopped, Resumes}
-use Rattle.resume.proofs.Steps.{HeldMachine, held-after, world-after, chip-voices}
-use Rattle.resume.proofs.Second.{accepted, resumed-held, resumed-world}
+use Rattle.resume.specs.Stops.{seen, resumed, made, Second, ofPlain, worldOf, stopped, plainStopped, Resumes, Deed, Life, ofLife, callsOf}
+use Rattle.resume.proofs.Steps.{HeldMachine}
+use Rattle.resume.proofs.Lives.{Lived, lived-after, lived-trace, lived-resume, same-text, all-done, lived-life}
 
 -- what `with_version` makes over a RAM of an allowed length
 made-fresh : (version : SguVersion) (ram : List ℕ) (queues : List ℤ) → isRamLength (length ram) ≡ true → made version ram queues ≡ record { chip = freshChip version; ram = replicate (length ram) 0; queues = queues }
 unfolding madeCalled madeRam refusal
 made-fresh version ram queues e = λ i. record { chip = freshChip version; ram = cond (isDone (cond (e i) Done RamLength)) (replicate (length ram) 0) ram; queues = queues }
+
+-- it is a fresh plain chip
+made-lived : (version : SguVersion) (ram : List ℕ) (queues : List ℤ) → isRamLength (length ram) ≡ true → length queues ≡ 16384 → FitEntries queues → Lived (made version ram queues) (freshPlain version (length ram))
+made-lived version ram queues allowed long entries =
+    let e = made-fresh version ram queues allowed in
+    record {
+      held = subst HeldMachine (sym e) (made-held version (length ram) queues long allowed entries);
+      same = ap (λ (m : Machine). plain (worldOf m)) e ∙ made-plain version (length ram) queues long;
+    }
 
 -- THE THEOREM, for every version, every RAM of an allowed length, every list of calls and every place in it where it is stopped, its two ends
 -- included, and every second chip. Its other premises are what the types give: entries of the queue buffer are 16-bit numbers, a byte is
@@ -43,58 +47,23 @@ pub resumes :
     Second (stopped version ram queues xs) second →
     Resumes version ram queues xs ys second
 resumes version ram queues xs ys second allowed long entries fx fy s =
+    let start = made-lived version ram queues allowed long entries in
+    let first : Machine = stopped version ram queues xs in
+    let p = plainStopped version ram queues xs in
+    let l : Lived first p = lived-after (made version ram queues) (freshPlain version (length ram)) xs fx start in
+    let on = lived-trace first p ys fy l in
     record {
-      goes-on = chip-voices again ys again-held fy ∙ ap (map told) (ticks-again ∙ sym first-plain) ∙ sym (chip-voices first ys held fy);
-      as-plain = chip-voices first ys held fy ∙ ap (map told) first-plain;
-      before = chip-voices start xs start-held fx ∙ ap (map told) start-plain;
-      ticks = ticks-again;
-      first-ticks = first-plain;
-      ticks-before = start-plain;
+      goes-on = lived-trace (resumed second (seen first)) p ys fy (lived-resume first second p s l) ∙ sym on;
+      as-plain = on;
+      before = lived-trace (made version ram queues) (freshPlain version (length ram)) xs fx start;
+      taken = all-done first second p s l;
+      same-text = same-text first second p s l;
     }
-  where
-    start : Machine
-    start = made version ram queues
 
-    first : Machine
-    first = stopped version ram queues xs
-
-    again : Machine
-    again = resumed second (seen first)
-
-    start-held : HeldMachine start
-    start-held = subst HeldMachine (sym (made-fresh version ram queues allowed)) (made-held version (length ram) queues long allowed entries)
-
-    held : HeldMachine first
-    held = held-after start xs start-held fx
-
-    again-held : HeldMachine again
-    again-held = resumed-held first second held s
-
-    one : World
-    one = worldOf start
-
-    so-far : worldOf first ≡ after (run slots session) one xs
-    so-far = world-after start xs start-held fx
-
-    all :
-        (ofVoices (calls.resumed session (worldOf second) (calls.seen slots session (after (run slots session) one xs))) ys ≡ ofVoices (after (run slots session) one xs) ys)
-        × (ofVoices (after (run slots session) one xs) ys ≡ ofPlain (after (run plains session) (plain one) xs) ys)
-        × (ofVoices one xs ≡ ofPlain (plain one) xs)
-    all = lists.resumes session session-is-ok one (worldOf second) xs ys (start-held .good) fx fy (accepted first second held s) (s .copy ∙ ap (λ (w : World). w .ram) so-far)
-
-    plain-start : plain one ≡ freshPlain version (length ram)
-    plain-start = ap (λ (m : Machine). plain (worldOf m)) (made-fresh version ram queues allowed) ∙ made-plain version (length ram) queues long
-
-    from-fresh : ofPlain (after (run plains session) (plain one) xs) ys ≡ ofPlain (plainStopped version ram queues xs) ys
-    from-fresh = ap (λ (p : Plain). ofPlain (after (run plains session) p xs) ys) plain-start
-
-    first-plain : ofVoices (worldOf first) ys ≡ ofPlain (plainStopped version ram queues xs) ys
-    first-plain = ap (λ (w : World). ofVoices w ys) so-far ∙ all .1 ∙ from-fresh
-
-    start-plain : ofVoices (worldOf start) xs ≡ ofPlain (plainStart version ram queues xs) xs
-    start-plain = all .2 ∙ ap (λ (p : Plain). ofPlain p xs) plain-start
-
-    ticks-again : ofVoices (worldOf again) ys ≡ ofPlain (plainStopped version ram queues xs) ys
-    ticks-again =
-        ap (λ (w : World). ofVoices w ys) (resumed-world first second held s ∙ ap (λ (w : World). calls.resumed session (worldOf second) (calls.seen slots session w)) so-far)
-        ∙ all .0 ∙ all .1 ∙ from-fresh
+-- THE SAME FOR ANY NUMBER OF RESUMES: what is seen of a score's calls, however often it goes over to another chip between two of them, is what
+-- is seen of the plain chip that runs them.
+pub lives :
+    (version : SguVersion) (ram : List ℕ) (queues : List ℤ) (ds : List Deed) →
+    isRamLength (length ram) ≡ true → length queues ≡ 16384 → FitEntries queues → Life (made version ram queues) ds →
+    ofLife (made version ram queues) ds ≡ ofPlain (freshPlain version (length ram)) (callsOf ds)
+lives version ram queues ds allowed long entries f = lived-life (made version ram queues) (freshPlain version (length ram)) ds f (made-lived version ram queues allowed long entries)

@@ -21,15 +21,15 @@ use Rattle.session.specs.declared.LineCalled.{LineCalled}
 use Rattle.session.specs.declared.LineAnswer.the-variants as lines
 use Rattle.session.specs.Answers as answers
 use Rattle.session.specs.Heads.{headCalled, readHeadCalled}
-use Rattle.plain_chip.specs.Models.{slots}
+use Rattle.slots.specs.Models.{slots, World}
+use Rattle.slots.specs.Good.{WorldOk}
 use Rattle.plain_chip.specs.Chips as chips
-use Rattle.plain_chip.specs.Chips.{World}
-use Rattle.plain_chip.specs.Good.{WorldOk}
 use Rattle.chip_slots.proofs.Stores.{world-version}
 use Rattle.call_lists.specs.Runs.{after}
 use Rattle.call_lists.specs.Calls.{readHead, readVoice, run}
 use Rattle.call_lists.specs.Seen as calls
-use Rattle.call_lists.specs.Seen.{Accepted}
+use Rattle.call_lists.specs.Second as reads
+use Rattle.call_lists.specs.Second.{Accepted}
 use Rattle.call_lists.proofs.Resumes.{fit-lines, head-read, headed-good}
 use Rattle.session_texts.specs.Session.{session}
 use Rattle.session_texts.proofs.Read.{session-is-ok}
@@ -88,9 +88,9 @@ module _ (first second : Machine) (h : HeldMachine first) (s : Second first seco
   pub resumed-held : HeldMachine (resumed second (seen first))
   resumed-held = subst HeldMachine (sym read-on) (held-after headed (map readVoice (seen first .lines)) headed-held (fit-lines (seen first .lines)))
 
-  pub resumed-world : worldOf (resumed second (seen first)) ≡ calls.resumed session (worldOf second) (calls.seen slots session (worldOf first))
+  pub resumed-world : worldOf (resumed second (seen first)) ≡ reads.resumed session (worldOf second) (calls.seen slots session (worldOf first))
   resumed-world =
       ap worldOf read-on
       ∙ world-after headed (map readVoice (seen first .lines)) headed-held (fit-lines (seen first .lines))
       ∙ ap (λ (w : World). after (run slots session) w (map readVoice (seen first .lines))) (headed-world ∙ sym (head-read session session-is-ok (worldOf first) (worldOf second) (h .good) accepted (s .copy)))
-      ∙ ap (calls.resumed session (worldOf second)) (seen-same first h)
+      ∙ ap (reads.resumed session (worldOf second)) (seen-same first h)

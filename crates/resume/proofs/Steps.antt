@@ -5,10 +5,8 @@ use Prim.Native.Nat.{ℕ, zero, suc, _+_, _<_}
 use native.Mathlib.Omega.{arith}
 use Rattle.session.specs.Voices.{lineOf}
 use Rattle.plain_chip.specs.Lists.{Every}
-use Rattle.plain_chip.specs.Slots.{Slot}
-use Rattle.plain_chip.specs.Voices.{plainOf}
-use Rattle.plain_chip.specs.Models.{slots}
-use Rattle.plain_chip.specs.Chips.{World}
+use Rattle.slots.specs.Slots.{Slot, plainOf}
+use Rattle.slots.specs.Models.{slots, World}
 use Rattle.chip_slots.specs.Whole.{row, slotAt, slotsOf}
 use Rattle.chip_slots.proofs.Puts.{slot-at}
 use Rattle.call_lists.specs.Runs.{after}
@@ -20,7 +18,7 @@ use Rattle.call_ties.specs.Ties.{Machine, Held}
 use Rattle.call_ties.specs.Code.{code}
 use Rattle.call_ties.proofs.Lines.{line-same}
 use Rattle.call_ties.proofs.Every.{tied}
-use Rattle.resume.specs.Stops.{seen, ofChip, ofVoices, told, worldOf}
+use Rattle.resume.specs.Stops.{seen, worldOf}
 
 abbrev pub HeldMachine : Machine → Type 0
 HeldMachine m = Held (m .chip) (m .ram) (m .queues)
@@ -49,11 +47,3 @@ seen-same m h =
     let own : (i k : ℕ) → i < 8 → k ≡ 0 + i → lineOf (m .chip) (m .queues) i ≡ plainText k (plainOf (slotAt (m .chip .core) (m .queues) i)) = λ i k l e. line-same (m .chip) (m .ram) (m .queues) h i ∙ ap₂ (λ (j : ℕ) (x : Slot). plainText j (plainOf x)) (omega (arith, e)) (slot-at (m .chip .core) (m .queues) i l) in
     let e = lines-from 8 0 (slotAt (m .chip .core) (m .queues)) (lineOf (m .chip) (m .queues)) own in
     λ i. record { head = seen m .head; lines = e i; ram = m .ram }
-
-pub chip-voices : (m : Machine) (cs : List Call) → HeldMachine m → Every FitCall cs → ofChip m cs ≡ map told (ofVoices (worldOf m) cs)
-chip-voices m [] h f = refl
-chip-voices m (c ∷ cs) h f =
-    let t = tied m h c (f .0) in
-    let now : seen (code m c .next) ≡ calls.seen slots session (run slots session (worldOf m) c .next) = seen-same (code m c .next) (t .held) ∙ ap (calls.seen slots session) (t .next) in
-    let later : ofChip (code m c .next) cs ≡ map told (ofVoices (run slots session (worldOf m) c .next) cs) = chip-voices (code m c .next) cs (t .held) (f .1) ∙ ap (λ (w : World). map told (ofVoices w cs)) (t .next) in
-    λ i. record { next = now i; answer = record { reply = t .reply i; sides = t .sides i; text = t .text i } } ∷ later i

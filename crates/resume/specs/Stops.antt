@@ -1,25 +1,25 @@
 -- What is compared, a chip that reads a session, and DEMAND 3's claim.
 use mathlib.Core.Path.{_≡_}
 use mathlib.Core.Bool.{true}
-use mathlib.Core.List.{List, _∷_, map}
+use mathlib.Core.List.{List, [], _∷_, map}
 use Prim.Native.Nat.{ℕ}
 use lib.IntN.{ℤ}
-use lib.ListN.{length}
+use lib.ListN.{length, replicate}
 use Rattle.version.specs.declared.SguVersion.{SguVersion}
 use Rattle.voice_line.specs.Head.{headText}
 use Rattle.s3w2.specs.Fresh.{madeCalled, madeRam}
 use Rattle.s3w2.specs.Refusals.{acceptsChip}
 use Rattle.session.specs.Voices.{lineOf}
-use Rattle.plain_chip.specs.Models.{slots, plains}
-use Rattle.plain_chip.specs.Chips.{Plain, World, plain, freshPlain}
+use Rattle.plain_chip.specs.Models.{plains}
+use Rattle.plain_chip.specs.Chips.{Plain, freshPlain}
+use Rattle.slots.specs.Models.{World, plain}
 use Rattle.chip_slots.specs.Whole.{row}
 use Rattle.call_lists.specs.Runs.{Ran, after, trace}
-use Rattle.call_lists.specs.Calls as list
-use Rattle.call_lists.specs.Calls.{Call, readHead, readVoice, run}
+use Rattle.call_lists.specs.Calls.{Answer, Call, readHead, readVoice, replies, done, run}
 use Rattle.call_lists.specs.Seen as calls
-use Rattle.call_lists.specs.Seen.{Seen}
+use Rattle.call_lists.specs.Seen.{Seen, FitCall}
 use Rattle.session_texts.specs.Session.{session}
-use Rattle.call_ties.specs.Ties.{world, Machine, Heard, Typed}
+use Rattle.call_ties.specs.Ties.{world, Machine, Typed}
 use Rattle.call_ties.specs.Code.{code}
 
 -- the session text that `write_head` and `write_voice` write, and the RAM
@@ -27,8 +27,11 @@ abbrev pub seen : Machine → Seen
 seen m = record { head = headText (m .chip .version); lines = row 8 (lineOf (m .chip) (m .queues)); ram = m .ram }
 
 -- a chip that reads a session's head and then its voice lines, in order
+abbrev pub reading : Seen → List Call
+reading s = readHead (s .head) ∷ map readVoice (s .lines)
+
 abbrev pub resumed : Machine → Seen → Machine
-resumed m s = after code m (readHead (s .head) ∷ map readVoice (s .lines))
+resumed m s = after code m (reading s)
 
 -- a chip just made, as `with_version` makes it over a RAM
 abbrev pub made : SguVersion → List ℕ → List ℤ → Machine
@@ -41,23 +44,16 @@ pub record Second (first second : Machine) : Type 0 where
   pub long : length (second .queues) ≡ 16384
   pub copy : second .ram ≡ first .ram
 
--- ---- what is seen of calls: each answer, then the session text and the RAM
-abbrev pub ofChip : Machine → List Call → List (Ran Seen Heard)
+-- ---- what is seen of calls: each answer with the values ahead of the volume of its ticks, then the session text and the RAM
+abbrev pub ofChip : Machine → List Call → List (Ran Seen Answer)
 ofChip m cs = trace code seen m cs
 
--- the same of the plain chip, and the values ahead of the volume of all ticks
-abbrev pub ofPlain : Plain → List Call → List (Ran Seen list.Answer)
+-- the same of the plain chip
+abbrev pub ofPlain : Plain → List Call → List (Ran Seen Answer)
 ofPlain p cs = trace (run plains session) (calls.seen plains session) p cs
 
-abbrev pub ofVoices : World → List Call → List (Ran Seen list.Answer)
-ofVoices w cs = trace (run slots session) (calls.seen slots session) w cs
-
--- without these values, which no call of the code gives
-abbrev pub heardOf : list.Answer → Heard
-heardOf a = record { reply = a .reply; sides = a .sides; text = a .text }
-
-abbrev pub told : Ran Seen list.Answer → Ran Seen Heard
-told r = record { next = r .next; answer = heardOf (r .answer) }
+abbrev pub answersOf : List (Ran Seen Answer) → List Answer
+answersOf l = map (λ (r : Ran Seen Answer). r .answer) l
 
 abbrev pub worldOf : Machine → World
 worldOf m = world (m .chip) (m .ram) (m .queues)
@@ -77,12 +73,33 @@ module _ (version : SguVersion) (ram : List ℕ) (queues : List ℤ) (xs : List 
   pub record Resumes (ys : List Call) (second : Machine) : Type 0 where
     -- the second chip goes on as the first, the first as the plain chip; and so it was before the stop
     pub goes-on : ofChip (resumed second (seen stopped)) ys ≡ ofChip stopped ys
-    pub as-plain : ofChip stopped ys ≡ map told (ofPlain plainStopped ys)
-    pub before : ofChip (made version ram queues) xs ≡ map told (ofPlain plainStart xs)
-    -- the same with the value ahead of the volume of each tick
-    pub ticks : ofVoices (worldOf (resumed second (seen stopped))) ys ≡ ofPlain plainStopped ys
-    pub first-ticks : ofVoices (worldOf stopped) ys ≡ ofPlain plainStopped ys
-    pub ticks-before : ofVoices (worldOf (made version ram queues)) xs ≡ ofPlain plainStart xs
+    pub as-plain : ofChip stopped ys ≡ ofPlain plainStopped ys
+    pub before : ofChip (made version ram queues) xs ≡ ofPlain plainStart xs
+    -- the second chip takes the head and the eight lines, and its text is then the first's
+    pub taken : answersOf (ofChip second (reading (seen stopped))) ≡ replicate 9 (replies done)
+    pub same-text : seen (resumed second (seen stopped)) ≡ seen stopped
+
+-- ---- any number of resumes: a score that goes on, call by call, and now and then over to another chip
+pub data Deed : Type 0 where
+  call : Call → Deed
+  over : Machine → Deed
+
+-- each call has bytes where it takes bytes, each other chip is a second chip of the one before it
+abbrev pub Life : Machine → List Deed → Type 0
+Life m [] = Unit {0}
+Life m (call c ∷ ds) = FitCall c × Life (code m c .next) ds
+Life m (over n ∷ ds) = Second m n × Life (resumed n (seen m)) ds
+
+-- what is seen of its calls, on whatever chip each was made
+abbrev pub ofLife : Machine → List Deed → List (Ran Seen Answer)
+ofLife m [] = []
+ofLife m (call c ∷ ds) = record { next = seen (code m c .next); answer = code m c .answer } ∷ ofLife (code m c .next) ds
+ofLife m (over n ∷ ds) = ofLife (resumed n (seen m)) ds
+
+abbrev pub callsOf : List Deed → List Call
+callsOf [] = []
+callsOf (call c ∷ ds) = c ∷ callsOf ds
+callsOf (over n ∷ ds) = callsOf ds
 
 -- ---- texts and fields of two chips
 pub record SameTexts (one two : Machine) : Type 0 where

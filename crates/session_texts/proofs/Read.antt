@@ -16,8 +16,8 @@ use Rattle.voice_line.proofs.Storing.{size-samples}
 use Rattle.voice_line.proofs.Back.{Whole}
 use Rattle.voice_line.proofs.Session.{voice-back}
 use Rattle.voice_line.proofs.Taken.{read-told}
-use Rattle.plain_chip.specs.Slots.{Slot}
-use Rattle.plain_chip.specs.Voices.{PlainVoice, channelWith, slotLoaded}
+use Rattle.slots.specs.Slots.{Slot, channelWith, slotLoaded}
+use Rattle.plain_chip.specs.Voices.{PlainVoice}
 use Rattle.plain_chip.specs.Good.{FitVoice}
 use Rattle.call_lists.specs.Texts as texts
 use Rattle.call_lists.specs.Texts.{TextsOk, Told}

@@ -14,9 +14,9 @@ use Rattle.voice.specs.Channel.{setFifo, setStream}
 use Rattle.voice_line.specs.Numbers.{lineOf}
 use Rattle.voice_line.specs.Lines.{voiceText, atStart, sessionOf}
 use Rattle.voice_line.proofs.Session.{same-text}
-use Rattle.plain_chip.specs.Slots.{Slot}
-use Rattle.plain_chip.specs.Voices.{PlainVoice, plainOf, channelWith}
-use Rattle.plain_chip.specs.Good.{SlotOk}
+use Rattle.slots.specs.Slots.{Slot, plainOf, channelWith}
+use Rattle.plain_chip.specs.Voices.{PlainVoice}
+use Rattle.slots.specs.Good.{SlotOk}
 use Rattle.session_texts.specs.Session.{plainText}
 
 -- the queue of a voice with these fields is their list

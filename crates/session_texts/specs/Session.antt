@@ -5,7 +5,8 @@ use Rattle.voice_line.specs.Head as heads
 use Rattle.voice_line.specs.Lines.{Voice, voiceText, ReadVoice, voice, malformed, readVoice}
 use Rattle.voice_line.specs.declared.HeadLine.{HeadLine}
 use Rattle.voice_line.specs.declared.HeadLine.the-variants.{Version, Malformed}
-use Rattle.plain_chip.specs.Voices.{PlainVoice, channelWith}
+use Rattle.plain_chip.specs.Voices.{PlainVoice}
+use Rattle.slots.specs.Slots.{channelWith}
 use Rattle.call_lists.specs.Texts as texts
 use Rattle.call_lists.specs.Texts.{Texts, VoiceRead, HeadRead}
 

@@ -11,7 +11,8 @@ use Rattle.stream.specs.declared.Opened.{Opened}
 use Rattle.stream.specs.File.{sourceOf, openedIn}
 use Rattle.stream.specs.Cache.{Stock}
 use Rattle.stream.specs.Accepted.{acceptsCache}
-use Rattle.stream.specs.Tick.{Found, unheard, tickOf, heldFound, freshFound, cachedFound, cachedTick}
+use Rattle.stream.specs.Tick.{Found, unheard, tickOf}
+use Rattle.stream.specs.Cached.{heldFound, freshFound, cachedFound, cachedTick}
 
 pub choose : {A : Type 0} (b : Bool) (x y : A) → b ≡ true → cond b x y ≡ x
 choose b x y e = ap (λ (t : Bool). cond t x y) e

@@ -21,7 +21,8 @@ use Rattle.stream.specs.declared.Play.{Play}
 use Rattle.stream.specs.declared.StreamCache.{StreamCache}
 use Rattle.stream.specs.declared.Streamed.{Streamed}
 use Rattle.stream.specs.Cache.{Stock, stock, ensureIn}
-use Rattle.stream.specs.Tick.{Given, Ticked, planOf, mixes, heardAt, playedBy, tickOf, tapAt, cachedRead, heldFound}
+use Rattle.stream.specs.Tick.{Given, Ticked, planOf, mixes, heardAt, playedBy, tickOf}
+use Rattle.stream.specs.Cached.{tapAt, cachedRead, heldFound}
 
 -- ---- a value, from its reads
 module _ {S : Type 0} (read : S → ℕ → Given S) (i : Info) (p : Play) (frac : ℕ) (s : S) (at : ℕ) (g : Given S) (r : g ≡ read s at) where

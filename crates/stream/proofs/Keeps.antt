@@ -29,7 +29,8 @@ use Rattle.stream.specs.declared.StreamCache.{StreamCache}
 use Rattle.stream.specs.File.{openedIn}
 use Rattle.stream.specs.Cache.{Stock, stock, emptied, filledWith, rewoundFrom, cachedAt, isHeld, storedAs, Plays, framesOf, fragmentSamples, fragmentState, load, step, steps, ensure}
 use Rattle.stream.specs.Accepted.{halfFits, acceptsCache, Fit}
-use Rattle.stream.specs.Tick.{Given, Ticked, Found, unheard, planOf, mixes, heardAt, playedBy, tickOf, cachedRead, heldFound, freshFound, cachedFound, cachedTick}
+use Rattle.stream.specs.Tick.{Given, Ticked, Found, unheard, planOf, mixes, heardAt, playedBy, tickOf}
+use Rattle.stream.specs.Cached.{cachedRead, heldFound, freshFound, cachedFound, cachedTick}
 use Rattle.stream.proofs.Fragments.{frame-there}
 use Rattle.stream.proofs.Counts.{both-is}
 use Rattle.stream.proofs.Indexes.{index-small}

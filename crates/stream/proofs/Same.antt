@@ -29,7 +29,9 @@ use Rattle.stream.specs.declared.Opened.the-variants.{NoFile, File}
 use Rattle.stream.specs.File.{sourceOf, infoOf, openedIn}
 use Rattle.stream.specs.Cache.{Stock, stock, emptied, filledWith, Plays, framesOf, bytesAt, fragmentSamples, fragmentState, ensureIn}
 use Rattle.stream.specs.Accepted.{acceptsCache}
-use Rattle.stream.specs.Tick.{Given, Ticked, planOf, mixes, heardAt, playedBy, tickOf, cachedRead, heldFound, freshFound, cachedTick, wholeIn, plainRead, plainFound, plainTick}
+use Rattle.stream.specs.Tick.{Given, Ticked, planOf, mixes, heardAt, playedBy, tickOf}
+use Rattle.stream.specs.Cached.{cachedRead, heldFound, freshFound, cachedTick}
+use Rattle.stream.specs.Plain.{wholeIn, plainRead, plainFound, plainTick}
 use Rattle.stream.specs.Coherent.{HoldsFile, Valid, Coherent, CoherentIn}
 use Rattle.stream.proofs.Fragments.{per-range, frame-below, length-fragment, fragment-alone}
 use Rattle.stream.proofs.Pieces.{whole-at}

@@ -23,7 +23,8 @@ use Rattle.stream.specs.declared.StreamCache.{StreamCache}
 use Rattle.stream.specs.declared.Window.{Window}
 use Rattle.stream.specs.Cache.{Stock, stock}
 use Rattle.stream.specs.Accepted.{acceptsCache}
-use Rattle.stream.specs.Tick.{Given, Ticked, planOf, heardAt, tapAt, cachedRead, heldFound, cachedTick}
+use Rattle.stream.specs.Tick.{Given, Ticked, planOf, heardAt}
+use Rattle.stream.specs.Cached.{tapAt, cachedRead, heldFound, cachedTick}
 use Rattle.stream.specs.Window.{isSome, holdsFrame, reachOf, windowOf, offsetIn, servesAt, placeIn, tapIn, valueIn}
 use Rattle.stream.proofs.Fragments.{samples-range}
 use Rattle.stream.proofs.Counts.{by-per}

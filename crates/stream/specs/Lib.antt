@@ -2,6 +2,8 @@ pub mod File
 pub mod Cache
 pub mod Accepted
 pub mod Tick
+pub mod Cached
+pub mod Plain
 pub mod Ready
 pub mod Coherent
 pub mod Window

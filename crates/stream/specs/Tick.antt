@@ -1,29 +1,14 @@
--- A stream voice's tick, over how a sample of the stream is read: with the cache, and without one.
+-- A stream voice's tick, over how a sample of the stream is read: with the cache (Cached), and without one (Plain).
 use mathlib.Core.Bool.{Bool, false, cond}
-use mathlib.Core.List.{List, []}
-use Prim.Native.Nat.{ℕ, _+_, _*_, _/_, _%_}
+use Prim.Native.Nat.{ℕ, _+_}
 use lib.Dec.{ltb, eqb}
-use lib.ListN.{length, getD, replicate}
 use lib.IntN.{ℤ, pos}
-use Rattle.adpcm.specs.declared.Variant.{Variant}
-use Rattle.sqv4.specs.declared.Inspected.{Inspected}
-use Rattle.sqv4.specs.declared.Inspected.the-variants.{Accepted, TruncatedHeader, InvalidMagic, UnsupportedVersion, InvalidVariant, InvalidChannels, InvalidReservedByte, ZeroSampleRate, InvalidFileLength, InvalidStepIndex, NonZeroPadding}
-use Rattle.sqv4.specs.Files.{inspected, frameSamples}
-use Rattle.sqv4.specs.Whole.{channelWhole}
 use Rattle.tone.specs.Phase.{whole, fraction, stepped, phaseOf}
 use Rattle.tone.specs.Taps.{raisedSample, blendSamples}
 use Rattle.stream.specs.declared.Info.{Info}
 use Rattle.stream.specs.declared.Play.{Play}
 use Rattle.stream.specs.declared.Plan.{Plan}
 use Rattle.stream.specs.declared.Plan.the-variants.{Stop, Sample}
-use Rattle.stream.specs.declared.Opened.{Opened}
-use Rattle.stream.specs.declared.Opened.the-variants.{NoFile, File}
-use Rattle.stream.specs.declared.Held.{Held}
-use Rattle.stream.specs.declared.Held.the-variants.{Nothing, Is}
-use Rattle.stream.specs.declared.Streamed.{Streamed}
-use Rattle.stream.specs.File.{sourceOf, openedFrom}
-use Rattle.stream.specs.Cache.{Stock, stock, emptied, filledWith, ensureIn}
-use Rattle.stream.specs.Accepted.{acceptsCache}
 
 -- ---- what a tick asks for: past the last sample the loop's, or nothing
 unfoldable pub planOf : Info → Play → ℕ → Plan
@@ -74,66 +59,3 @@ module _ {S : Type 0} where
   tickOf p phase active (absent s) = ended s phase
   tickOf p phase active (unheard s) = record { stream = s; phase = phase; active = active; value = pos 0 }
   tickOf p phase active (present i read s) = playedBy read i p phase active s (planOf i p phase)
-
--- ---- with the cache
--- a decoded sample, where its fragment is in its half
-abbrev pub tapAt : ℕ → List ℤ → ℕ → ℤ
-tapAt version samples at = getD samples (64 * (at / frameSamples version % 2) + at % frameSamples version) (pos 0)
-
--- its fragment is ensured first
-unfoldable pub cachedRead : List ℕ → Variant → Info → Stock → ℕ → Given Stock
-cachedRead d k i s at =
-    let e = ensureIn d k i s (at / frameSamples (i .version)) in
-    record { left = e; sample = tapAt (i .version) (e .samples) at }
-
--- a cache without a variant is not heard
-abbrev pub heldFound : List ℕ → Stock → Held → Found Stock
-heldFound d s Nothing = unheard s
-heldFound d s (Is k) = present (s .cache .info) (cachedRead d k (s .cache .info)) s
-
-abbrev pub freshFound : List ℕ → List ℤ → Opened → Found Stock
-freshFound d samples NoFile = absent (stock emptied (replicate (length samples) (pos 0)))
-freshFound d samples (File k i) = heldFound d (stock (filledWith k i) samples) (Is k)
-
--- a cache that is not accepted, or that has not its 128 samples, is not heard
-unfoldable pub cachedFound : List ℕ → Play → Stock → Found Stock
-cachedFound ram p s =
-    let src = sourceOf ram (p .start) (p .end) in
-    cond (eqb (length (s .samples)) 128)
-    (cond (s .cache .valid)
-    (cond (acceptsCache (s .cache) (p .start) (p .end) (length ram)) (heldFound (src .bytes) s (s .cache .variant)) (unheard s))
-    (freshFound (src .bytes) (s .samples) (openedFrom src (p .«wants_v3») (p .start) (p .«loop_addr»))))
-    (unheard s)
-
-unfoldable pub cachedTick : List ℕ → Play → ℕ → Bool → Stock → Ticked Stock
-cachedTick ram p phase active s = tickOf p phase active (cachedFound ram p s)
-
--- the voice's parts after it
-abbrev pub streamedOf : Ticked Stock → Streamed
-streamedOf t = record { cache = t .stream .cache; phase = t .phase; active = t .active; q8 = t .value }
-
--- ---- document 01's plain tick: the file is tested and decoded whole each time
-abbrev pub wholeIn : List ℕ → Inspected → List ℤ
-wholeIn d (Accepted h) = channelWhole d h 0
-wholeIn d TruncatedHeader = []
-wholeIn d InvalidMagic = []
-wholeIn d (UnsupportedVersion x) = []
-wholeIn d (InvalidVariant x) = []
-wholeIn d (InvalidChannels x) = []
-wholeIn d (InvalidReservedByte x) = []
-wholeIn d ZeroSampleRate = []
-wholeIn d (InvalidFileLength e a) = []
-wholeIn d (InvalidStepIndex x) = []
-wholeIn d NonZeroPadding = []
-
-abbrev pub plainRead : List ℤ → Unit {0} → ℕ → Given (Unit {0})
-plainRead samples u at = record { left = tt; sample = getD samples at (pos 0) }
-
-abbrev pub plainFound : List ℤ → Opened → Found (Unit {0})
-plainFound samples NoFile = absent tt
-plainFound samples (File k i) = present i (plainRead samples) tt
-
-unfoldable pub plainTick : List ℕ → Play → ℕ → Bool → Ticked (Unit {0})
-plainTick ram p phase active =
-    let src = sourceOf ram (p .start) (p .end) in
-    tickOf p phase active (plainFound (wholeIn (src .bytes) (inspected (src .bytes))) (openedFrom src (p .«wants_v3») (p .start) (p .«loop_addr»)))

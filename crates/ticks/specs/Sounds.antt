@@ -3,6 +3,7 @@ use mathlib.Core.Bool.{Bool, true, false, cond}
 use mathlib.Core.List.{List}
 use Prim.Native.Nat.{ℕ, _*_, _%_}
 use lib.Dec.{eqb}
+use lib.IntN.{ℤ, pos}
 use lib.ListN.{length}
 use Rattle.registers.specs.declared.PcmRegisters.{PcmRegisters}
 use Rattle.registers.specs.declared.WaveformType.{WaveformType}
@@ -49,3 +50,12 @@ soundTicks n Noise s p w ram ch own t v = ticksOf n (noiseOf s) s own t v
 soundTicks n DmaPcm s p w ram ch own t v = ticksOf n dmaOf s own t v
 soundTicks n Sqv4 s p w ram ch own t v = v
 soundTicks n FifoDac s p w ram ch own t v = v
+
+-- the value ahead of the volume of one such tick, 8 fraction bits, given what modulates it as it stands; 0 of a voice that stands still
+abbrev pub soundValue : WaveformType → Setting → PcmRegisters → List ℕ → List ℕ → ℕ → Target → Oscillator → ℤ
+soundValue Wavetable s p w ram ch t o = wavetableTick s w (ch % 8 * 256) t o .q8
+soundValue Pcm s p w ram ch t o = cond (eqb (length ram) 0) (pos 0) (pcmTick s p ram t o .q8)
+soundValue Noise s p w ram ch t o = noiseTick s o .q8
+soundValue DmaPcm s p w ram ch t o = dmaTick o .q8
+soundValue Sqv4 s p w ram ch t o = pos 0
+soundValue FifoDac s p w ram ch t o = pos 0

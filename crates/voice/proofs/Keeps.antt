@@ -21,7 +21,8 @@ use Rattle.stream.specs.Accepted.{acceptsCache}
 use Rattle.ticks.specs.Oscillators.{acceptsOscillator, setPhase}
 use Rattle.ticks.specs.declared.Oscillator.{Oscillator}
 use Rattle.voice.specs.Channel.{defaultChannel, setFifo, setPcm, setRegisters, setVersion}
-use Rattle.voice.specs.Writes.{oscillatorRestarted, waveformWritten, restarted, latchWritten, sampleWritten, sampleControlWritten, writeControl, writePcmReg}
+use Rattle.voice.specs.Kinds.{oscillatorRestarted}
+use Rattle.voice.specs.Writes.{waveformWritten, restarted, latchWritten, sampleWritten, sampleControlWritten, writeControl, writePcmReg}
 use Rattle.voice.specs.Reads.{afterRead}
 use Rattle.voice.specs.Accepted.{acceptsStream, acceptsChannel, AcceptedChannel}
 use Rattle.voice.specs.declared.Channel.{Channel}

@@ -13,7 +13,8 @@ use Rattle.num.specs.Lists.{part}
 use lib.IntN.{ℤ}
 use Rattle.tone.specs.Mix.{streamVolumeOf}
 use Rattle.stream.specs.Cache.{Stock, stock}
-use Rattle.stream.specs.Tick.{Ticked, cachedTick, streamedOf}
+use Rattle.stream.specs.Tick.{Ticked}
+use Rattle.stream.specs.Cached.{cachedTick, streamedOf}
 use Rattle.stream.specs.declared.Play.{Play}
 use Rattle.stream.specs.declared.Streamed.{Streamed}
 use Rattle.ticks.specs.Mix.{heard}

@@ -1,3 +1,4 @@
+pub mod Kinds
 pub mod Channel
 pub mod Writes
 pub mod Reads

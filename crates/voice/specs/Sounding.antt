@@ -7,7 +7,6 @@ use Rattle.tone.specs.Pcm.{loops}
 use Rattle.version.specs.Versions.{has34si22, interpolates}
 use Rattle.version.specs.declared.SguVersion.{SguVersion}
 use Rattle.registers.specs.Pcm.{setActive}
-use Rattle.registers.specs.declared.WaveformType.{WaveformType}
 use Rattle.registers.specs.declared.WaveformType.the-variants as waveforms
 use Rattle.stream.specs.Window.{windowOf}
 use Rattle.stream.specs.declared.Play.{Play}
@@ -19,19 +18,12 @@ use Rattle.ticks.specs.declared.QueueSound.{QueueSound}
 use Rattle.voice.specs.Channel.{setOscillator, setFifo, setStream, setPcm}
 use Rattle.voice.specs.declared.Channel.{Channel}
 use Rattle.voice.specs.declared.Kind.{Kind}
-use Rattle.voice.specs.declared.Kind.the-variants.{Silent, Oscillator, Sqv4, FifoDac}
+use Rattle.voice.specs.declared.Kind.the-variants.{Silent}
 use Rattle.voice.specs.declared.StreamSound.{StreamSound}
 use Rattle.voice.specs.declared.Served.{Served}
+use Rattle.voice.specs.Kinds.{soundingOf}
 
 -- ---- what moves: nothing in a voice that is not active
-abbrev pub soundingOf : WaveformType → Kind
-soundingOf waveforms.Wavetable = Oscillator
-soundingOf waveforms.Pcm = Oscillator
-soundingOf waveforms.Noise = Oscillator
-soundingOf waveforms.DmaPcm = Oscillator
-soundingOf waveforms.Sqv4 = Sqv4
-soundingOf waveforms.FifoDac = FifoDac
-
 abbrev pub kindOf : Channel → Kind
 kindOf c = cond (c .pcm .active) (soundingOf (c .registers .«waveform_type»)) Silent
 

@@ -9,7 +9,8 @@ use lib.IntN.{ℤ}
 use Rattle.num.specs.Lists.{part}
 use Rattle.tone.specs.Mix.{streamVolumeOf}
 use Rattle.stream.specs.Cache.{Stock, stock}
-use Rattle.stream.specs.Tick.{Ticked, cachedTick, streamedOf}
+use Rattle.stream.specs.Tick.{Ticked}
+use Rattle.stream.specs.Cached.{cachedTick, streamedOf}
 use Rattle.stream.specs.declared.Play.{Play}
 use Rattle.ticks.specs.Again.{again}
 use Rattle.ticks.specs.Mix.{heard}

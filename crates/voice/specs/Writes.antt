@@ -1,11 +1,9 @@
 -- What a write at an offset makes of a channel and of its queue's entries.
 use mathlib.Core.Bool.{Bool, true, cond}
 use mathlib.Core.List.{List}
-use Prim.Native.Nat.{ℕ, _+_, _*_, _%_}
+use Prim.Native.Nat.{ℕ, _%_}
 use lib.Dec.{eqb, leb}
 use lib.IntN.{ℤ}
-use mir.Syntax.{w16}
-use mir.Val.{toZ}
 use Rattle.version.specs.Versions.{has3ws8pna, hasSampleControl}
 use Rattle.registers.specs.Waveforms.{waveformFrom, under}
 use Rattle.registers.specs.Control.{setWaveform, writeRegisters}
@@ -13,22 +11,15 @@ use Rattle.registers.specs.Pcm.{setSampleControl, writePcm}
 use Rattle.registers.specs.Queue.{defaultFifo, setLatch, pushed, pushedEntries}
 use Rattle.version.specs.declared.SguVersion.{SguVersion}
 use Rattle.stream.specs.Cache.{emptied}
-use Rattle.ticks.specs.declared.Oscillator.{Oscillator}
 use Rattle.voice.specs.Channel.{setOscillator, setFifo, setStream, setPcm, setRegisters}
 use Rattle.voice.specs.declared.Channel.{Channel}
-
--- a sample, its high byte first
-abbrev pub sampleOf : ℕ → ℕ → ℤ
-sampleOf high low = toZ w16 (high * 256 + low)
+use Rattle.voice.specs.Kinds.{sampleOf, oscillatorRestarted}
 
 -- ---- offset 2: the waveform, and an empty cache
 unfoldable pub waveformWritten : SguVersion → Channel → ℕ → Channel
 waveformWritten version c value = setStream (setRegisters c (setWaveform (c .registers) (under (waveformFrom value) version))) emptied
 
 -- ---- offset 10: phase, slew, noise, queue and cache begin anew; old phase and last sample stay
-abbrev pub oscillatorRestarted : Oscillator → Oscillator
-oscillatorRestarted o = record { phase = 0; «old_phase» = o .«old_phase»; «lfsr_state» = 315916348; «last_sample» = o .«last_sample»; «slew_current» = 0 }
-
 unfoldable pub restarted : Channel → Channel
 restarted c = setStream (setFifo (setOscillator c (oscillatorRestarted (c .oscillator))) defaultFifo) emptied
 

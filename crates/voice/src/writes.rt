@@ -1,7 +1,8 @@
 // Writes at a channel's offsets.
 ghost use mathlib.Core.Path.{_≡_};
 ghost use lib.Dec.{leb};
-ghost use Rattle.voice.specs.Writes.{sampleOf, emptiesCache, waveformWritten, restarted, latchWritten, sampleWritten, sampleEntries, sampleControlWritten, writeControl, writeControlEntries, writePcmReg};
+ghost use Rattle.voice.specs.Kinds.{sampleOf};
+ghost use Rattle.voice.specs.Writes.{emptiesCache, waveformWritten, restarted, latchWritten, sampleWritten, sampleEntries, sampleControlWritten, writeControl, writeControlEntries, writePcmReg};
 use crate::Channel;
 use registers::WaveformType;
 use version::SguVersion;

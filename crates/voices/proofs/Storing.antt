@@ -15,7 +15,8 @@ use Rattle.version.specs.Versions.{has3ws8pna}
 use Rattle.version.specs.declared.SguVersion.{SguVersion}
 use Rattle.registers.specs.Queue.{capacity, place, pushedEntries}
 use Rattle.voice.specs.Channel.{defaultChannel}
-use Rattle.voice.specs.Writes.{sampleOf, sampleEntries, writeControlEntries}
+use Rattle.voice.specs.Kinds.{sampleOf}
+use Rattle.voice.specs.Writes.{sampleEntries, writeControlEntries}
 use Rattle.voice.specs.declared.Channel.{Channel}
 use Rattle.voice.proofs.Tests.{first-arm, second-arm}
 use Rattle.voices.specs.Core.{channelAt, setChannel, setFragments, setWavetables, noFragments, noWavetable, storedChannel}

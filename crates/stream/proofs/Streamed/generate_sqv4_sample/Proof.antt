@@ -10,7 +10,8 @@ use Rattle.num.specs.Lists.{part}
 use Rattle.stream.specs.declared.StreamCache.{StreamCache}
 use Rattle.stream.specs.declared.Opened.the-variants.{NoFile, File}
 use Rattle.stream.specs.Cache.{Stock, stock, filledWith}
-use Rattle.stream.specs.Tick.{Ticked, unheard, tickOf, heldFound, freshFound, streamedOf}
+use Rattle.stream.specs.Tick.{Ticked, unheard, tickOf}
+use Rattle.stream.specs.Cached.{heldFound, freshFound, streamedOf}
 use Rattle.stream.proofs.Accepts.{accepted-as, accepted-ready}
 use Rattle.stream.proofs.Openings.{opened-accepted}
 use Rattle.stream.proofs.Founds.{found-short, found-held, found-odd, found-fresh, tick-by}

@@ -5,7 +5,8 @@ use Rattle.stream.specs.declared.Plan.{Plan}
 use Rattle.stream.specs.declared.Plan.the-variants.{Stop}
 use Rattle.stream.specs.declared.Streamed.{Streamed}
 use Rattle.stream.specs.Cache.{Stock, stock}
-use Rattle.stream.specs.Tick.{Ticked, tickOf, heldFound, streamedOf, heardAt, cachedRead}
+use Rattle.stream.specs.Tick.{Ticked, tickOf, heardAt}
+use Rattle.stream.specs.Cached.{heldFound, streamedOf, cachedRead}
 use Rattle.stream.proofs.Heard.{by-plan, sampled, plan-asks, Asked}
 use Rattle.stream.proofs.Streamed.play.Statement.{statement}
 use Rattle.stream.proofs.Streamed.play.Tie as tie

@@ -8,7 +8,8 @@ use Rattle.num.proofs.Integers.{back}
 use Rattle.stream.specs.declared.Info.{Info}
 use Rattle.stream.specs.declared.StreamCache.{StreamCache}
 use Rattle.stream.specs.Cache.{Stock, stock, Plays, framesOf, fragmentSamples, fragmentState, ensureIn}
-use Rattle.stream.specs.Tick.{Given, cachedRead}
+use Rattle.stream.specs.Tick.{Given}
+use Rattle.stream.specs.Cached.{cachedRead}
 use Rattle.stream.specs.Ready.{heardAs}
 use Rattle.stream.proofs.Fragments.{frame-there}
 use Rattle.stream.proofs.Onward.{Kept, kept-ensure}

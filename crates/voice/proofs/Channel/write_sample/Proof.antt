@@ -4,7 +4,8 @@ use mir.Facts.{toZ-ofZ}
 use Rattle.voice.proofs.Tests.{first-arm, second-arm}
 use Rattle.registers.specs.Queue.{pushed, pushedEntries}
 use Rattle.voice.specs.Channel.{setFifo}
-use Rattle.voice.specs.Writes.{sampleOf, sampleWritten, sampleEntries}
+use Rattle.voice.specs.Kinds.{sampleOf}
+use Rattle.voice.specs.Writes.{sampleWritten, sampleEntries}
 use Rattle.voice.proofs.Channel.write_sample.Statement.{statement}
 use Rattle.voice.proofs.Channel.write_sample.Tie as tie
 

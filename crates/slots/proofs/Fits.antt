@@ -18,10 +18,11 @@ use Rattle.registers.proofs.Ranges.{write-fits, waveform-fits, write-pcm-fits, 
 use Rattle.registers.proofs.Ring.{length-pushed}
 use Rattle.ticks.proofs.Ranges.{default-fits}
 use Rattle.voice.specs.Channel.{defaultChannel, setVersion}
-use Rattle.voice.specs.Writes.{sampleOf, waveformWritten, restarted, latchWritten, sampleWritten, sampleEntries, sampleControlWritten, writeControl, writeControlEntries, writePcmReg}
+use Rattle.voice.specs.Kinds.{sampleOf}
+use Rattle.voice.specs.Writes.{waveformWritten, restarted, latchWritten, sampleWritten, sampleEntries, sampleControlWritten, writeControl, writeControlEntries, writePcmReg}
 use Rattle.voice.specs.Reads.{afterRead}
 use Rattle.voice.specs.declared.Channel.{Channel}
-use Rattle.plain_chip.specs.Good.{Bytes, FitChannel}
+use Rattle.slots.specs.Good.{FitChannel}
 
 -- ---- a fresh channel
 pub default-fifo-fits : FitFifo defaultFifo
@@ -34,14 +35,6 @@ default-channel-fits = record {
   oscillator = default-fits;
   fifo = default-fifo-fits;
 }
-
-pub bytes-replicate : (n x : ℕ) → x < 256 → Bytes (replicate n x)
-bytes-replicate n x h = record { each = go n }
-  where
-    go : (n i : ℕ) → getD (replicate n x) i 0 < 256
-    go zero i = omega arith
-    go (suc n) zero = h
-    go (suc n) (suc i) = go n i
 
 pub entries-replicate : (n : ℕ) → FitEntries (replicate n (pos 0))
 entries-replicate n = record { each = go n }

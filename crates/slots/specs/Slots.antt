@@ -4,13 +4,16 @@ use mathlib.Core.List.{List}
 use Prim.Native.Nat.{ℕ}
 use lib.Dec.{eqb, leb}
 use lib.IntN.{ℤ, pos}
-use lib.ListN.{replicate, set}
+use lib.ListN.{length, replicate, set}
+use lib.Seq.{sets}
 use Rattle.version.specs.declared.SguVersion.{SguVersion}
+use Rattle.registers.specs.Line.{lineOf}
 use Rattle.stream.specs.Cache.{emptied}
 use Rattle.voice.specs.Channel.{defaultChannel, setStream, setVersion}
 use Rattle.voice.specs.Writes.{writeControl, writeControlEntries, emptiesCache, writePcmReg}
 use Rattle.voice.specs.Reads.{afterRead, streamsFrom}
 use Rattle.voice.specs.declared.Channel.{Channel}
+use Rattle.plain_chip.specs.Voices.{PlainVoice, freshWavetable}
 
 -- 128 decoded samples, 256 bytes, 2,048 entries
 pub record Slot : Type 0 where
@@ -18,9 +21,6 @@ pub record Slot : Type 0 where
   pub fragments : List ℤ
   pub wavetable : List ℕ
   pub queue : List ℤ
-
-abbrev pub freshWavetable : List ℕ
-freshWavetable = replicate 256 128
 
 abbrev pub freshSlot : List ℤ → Slot
 freshSlot queue = record { channel = defaultChannel; fragments = replicate 128 (pos 0); wavetable = freshWavetable; queue = queue }
@@ -66,3 +66,28 @@ slotSetVersion version s = stored true (setVersion (s .channel) version) s
 -- ---- a byte of the RAM is written: a stream that has it begins anew
 unfoldable pub slotPoked : ℕ → Slot → Slot
 slotPoked address s = cond (streamsFrom (s .channel) address) (stored true (setStream (s .channel) emptied) s) s
+
+-- ---- as a plain voice
+-- the plain voice that a voice of the chip is
+abbrev pub plainOf : Slot → PlainVoice
+plainOf s = record {
+  registers = s .channel .registers;
+  pcm = s .channel .pcm;
+  oscillator = s .channel .oscillator;
+  line = lineOf (s .queue) (s .channel .fifo);
+  wavetable = s .wavetable;
+}
+
+-- a voice with these fields: an empty cache, the queue's head at 0
+abbrev pub channelWith : PlainVoice → Channel
+channelWith v = record {
+  oscillator = v .oscillator;
+  fifo = record { head = 0; count = length (v .line .line); held = v .line .held; hold = v .line .hold; sub = v .line .sub; latch = v .line .latch };
+  stream = emptied;
+  pcm = v .pcm;
+  registers = v .registers;
+}
+
+-- what reading them from a session makes of a voice; other entries of the queue are untouched
+unfoldable pub slotLoaded : PlainVoice → Slot → Slot
+slotLoaded v s = record { channel = channelWith v; fragments = s .fragments; wavetable = sets (s .wavetable) 0 (v .wavetable); queue = sets (s .queue) 0 (v .line .line) }

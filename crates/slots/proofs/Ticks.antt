@@ -41,7 +41,9 @@ use Rattle.stream.specs.Accepted.{acceptsCache}
 use Rattle.stream.specs.Cache.{stock}
 use Rattle.stream.specs.File.{sourceOf, openedFrom}
 use Rattle.sqv4.specs.Files.{inspected}
-use Rattle.stream.specs.Tick.{Given, planOf, playedBy, tickOf, wholeIn, plainRead, plainFound, plainTick, cachedTick}
+use Rattle.stream.specs.Tick.{Given, planOf, playedBy, tickOf}
+use Rattle.stream.specs.Plain.{wholeIn, plainRead, plainFound, plainTick}
+use Rattle.stream.specs.Cached.{cachedTick}
 use Rattle.stream.specs.declared.Info.{Info}
 use Rattle.stream.specs.declared.Play.{Play}
 use Rattle.stream.specs.declared.Plan.{Plan}
@@ -51,17 +53,20 @@ use Rattle.stream.specs.declared.Opened.the-variants.{NoFile, File}
 use Rattle.stream.proofs.Accepts.{accepts-free}
 use Rattle.stream.proofs.Same.{tick-same}
 use Rattle.stream.proofs.Keeps.{tick-keeps}
-use Rattle.voice.specs.Sounding.{soundingOf, kindOf, playOf}
+use Rattle.voice.specs.Kinds.{soundingOf}
+use Rattle.voice.specs.Sounding.{kindOf, playOf}
 use Rattle.voice.specs.Streaming.{streamTick, streamTicks}
 use Rattle.voice.specs.Accepted.{acceptsStream}
 use Rattle.voice.specs.declared.Channel.{Channel}
 use Rattle.voice.specs.declared.Kind.{Kind}
 use Rattle.voice.specs.declared.Kind.the-variants.{Silent, Sqv4, FifoDac}
 use Rattle.voice.specs.declared.Kind.the-variants as kinds
-use Rattle.plain_chip.specs.Slots.{Slot}
-use Rattle.plain_chip.specs.Voices.{PlainVoice, plainOf, withPcm, withOscillator, withLine}
-use Rattle.plain_chip.specs.Ticks.{VoiceTick, still, slotSound, slotStream, slotFifo, slotTickAs, slotTick, plainSound, plainStream, plainFifo, plainTickAs, plainVoiceTick}
-use Rattle.plain_chip.specs.Good.{Bytes, SlotOk}
+use Rattle.slots.specs.Slots.{Slot, plainOf}
+use Rattle.plain_chip.specs.Voices.{PlainVoice, withPcm, withOscillator, withLine}
+use Rattle.plain_chip.specs.Ticks.{VoiceTick, still, plainSound, plainStream, plainFifo, plainTickAs, plainVoiceTick}
+use Rattle.slots.specs.Ticks.{slotSound, slotStream, slotFifo, slotTickAs, slotTick}
+use Rattle.plain_chip.specs.Good.{Bytes}
+use Rattle.slots.specs.Good.{SlotOk}
 
 pub record SameTick (version : SguVersion) (ram : List ℕ) (a : VoiceTick Slot) (b : VoiceTick PlainVoice) : Type 0 where
   pub voice : plainOf (a .voice) ≡ b .voice
@@ -155,7 +160,7 @@ module _ (version : SguVersion) (ram : List ℕ) (t : Target) (sides : Sides) (s
       record {
         voice = ap (λ (l : Line). withLine (withOscillator (plainOf s) (setLast (c .oscillator) (lastSample (l .held)))) l) e;
         sides = ap (λ (l : Line). heard sides (l .held) (c .registers .panpot)) e;
-        value = refl;
+        value = ap (λ (l : Line). l .held) e;
         ok = record {
           accepted = record { registers = ok .accepted .registers; pcm = ok .accepted .pcm; oscillator = ok .accepted .oscillator; fifo = tick-accepted (c .fifo) q n (ok .fits .registers .frequency) (ok .accepted .fifo); stream = ok .accepted .stream };
           coherent = ok .coherent;

@@ -23,17 +23,19 @@ use Rattle.registers.proofs.Ring.{line-pushed, length-queued}
 use Rattle.stream.specs.Cache.{emptied}
 use Rattle.ticks.specs.Oscillators.{setPhase}
 use Rattle.voice.specs.Channel.{defaultChannel, setOscillator, setFifo, setStream, setPcm, setVersion}
-use Rattle.voice.specs.Writes.{sampleOf, waveformWritten, restarted, latchWritten, sampleWritten, sampleEntries, sampleControlWritten, writeControl, writeControlEntries, writePcmReg, emptiesCache}
+use Rattle.voice.specs.Kinds.{sampleOf}
+use Rattle.voice.specs.Writes.{waveformWritten, restarted, latchWritten, sampleWritten, sampleEntries, sampleControlWritten, writeControl, writeControlEntries, writePcmReg, emptiesCache}
 use Rattle.voice.specs.Reads.{readQueue, readSampleControl, readControl, afterRead, streamsFrom}
 use Rattle.voice.specs.declared.Channel.{Channel}
 use Rattle.voice.proofs.Offsets.{write-rest, entries-kept}
 use Rattle.voice.proofs.Clears.{version-empties}
 use Rattle.voice.proofs.Keeps.{default-accepted, version-accepted, write-kept, pcm-write-kept, read-kept}
-use Rattle.plain_chip.specs.Slots.{Slot, freshSlot, slotWriteControl, slotWritePcm, slotAfterRead, slotWriteWave, slotReset, slotSetVersion, slotPoked}
-use Rattle.plain_chip.specs.Voices.{PlainVoice, plainOf, freshVoice, withRegisters, withPcm, withLine, plainWriteControl, plainWritePcm, plainWriteWave, plainRead, plainAfterRead, plainSetVersion}
-use Rattle.plain_chip.specs.Good.{SlotOk, AcceptedSlot}
-use Rattle.plain_chip.proofs.Kept.{coherent-none, coherent-stored, write-empties, write-keeps, pcm-empties, pcm-keeps, read-empties, read-keeps}
-use Rattle.plain_chip.proofs.Fits.{default-channel-fits, bytes-replicate, version-fits, write-control-fits, write-entries-fit, write-pcm-reg-fits, after-read-fits, length-entries}
+use Rattle.slots.specs.Slots.{Slot, freshSlot, slotWriteControl, slotWritePcm, slotAfterRead, slotWriteWave, slotReset, slotSetVersion, slotPoked, plainOf}
+use Rattle.plain_chip.specs.Voices.{PlainVoice, freshVoice, withRegisters, withPcm, withLine, plainWriteControl, plainWritePcm, plainWriteWave, plainRead, plainAfterRead, plainSetVersion}
+use Rattle.slots.specs.Good.{SlotOk, AcceptedSlot}
+use Rattle.slots.proofs.Kept.{coherent-none, coherent-stored, write-empties, write-keeps, pcm-empties, pcm-keeps, read-empties, read-keeps}
+use Rattle.slots.proofs.Fits.{default-channel-fits, version-fits, write-control-fits, write-entries-fit, write-pcm-reg-fits, after-read-fits, length-entries}
+use Rattle.plain_chip.proofs.Lists.{bytes-replicate}
 
 pub choice : {A B : Type 0} (b : Bool) (f : A → B) (x y : A) → f (cond b x y) ≡ cond b (f x) (f y)
 choice true f x y = refl

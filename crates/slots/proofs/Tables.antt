@@ -24,11 +24,12 @@ use Rattle.ticks.specs.Oscillators.{setPhase}
 use Rattle.ticks.specs.Finish.{finished, positionOf}
 use Rattle.ticks.specs.Wavetable.{wavePlace, synced, shaped, wavetableAt, wavetableTick}
 use Rattle.ticks.specs.Pcm.{pcmTick}
-use Rattle.ticks.specs.Sounds.{targetFor, Tick, soundTick, ticksOf, noiseOf, dmaOf, soundTicks}
+use Rattle.ticks.specs.Sounds.{targetFor, Tick, soundTick, ticksOf, noiseOf, dmaOf, soundTicks, soundValue}
 use Rattle.ticks.specs.declared.Oscillator.{Oscillator}
 use Rattle.ticks.specs.declared.Setting.{Setting}
 use Rattle.ticks.specs.declared.Target.{Target}
 use Rattle.ticks.specs.declared.Sound.{Sound}
+use Rattle.ticks.specs.declared.Ticked.{Ticked}
 
 pub mask-small : (version : SguVersion) (control : ℕ) → wavetableMaskOf version control ≤ 255
 mask-small V1 control = omega arith
@@ -63,6 +64,14 @@ module _ (s : Setting) (small : s .mask ≤ 255) (p : PcmRegisters) (w ram : Lis
   own-table Sqv4 n own t v = refl
   own-table FifoDac n own t v = refl
 
+  pub own-value : (k : WaveformType) (t : Target) (o : Oscillator) → soundValue k s p w ram ch t o ≡ soundValue k s p (part w (ch % 8 * 256) 256) ram 0 t o
+  own-value Wavetable t o = ap (λ (r : Ticked). r .q8) (own-tick w (ch % 8 * 256) s small t o)
+  own-value Pcm t o = refl
+  own-value Noise t o = refl
+  own-value DmaPcm t o = refl
+  own-value Sqv4 t o = refl
+  own-value FifoDac t o = refl
+
 -- ---- a voice that modulates itself
 itself : (tick : Tick) (s : Setting) (own : Bool) (t : Target) (v : Sound) → (own ≡ true → targetFor true t (v .oscillator) ≡ t) → ticksOf 1 tick s own t v ≡ ticksOf 1 tick s false t v
 unfolding ticksOf again
@@ -77,3 +86,7 @@ own-target Noise s p w ram ch own t v e = itself (noiseOf s) s own t v e
 own-target DmaPcm s p w ram ch own t v e = itself dmaOf s own t v e
 own-target Sqv4 s p w ram ch own t v e = refl
 own-target FifoDac s p w ram ch own t v e = refl
+
+pub target-itself : (own : Bool) (t : Target) (o : Oscillator) → (own ≡ true → targetFor true t o ≡ t) → targetFor own t o ≡ t
+target-itself true t o e = e refl
+target-itself false t o e = refl

@@ -19,9 +19,9 @@ use Rattle.voice.specs.Channel.{setStream}
 use Rattle.voice.specs.Reads.{streamsFrom}
 use Rattle.voice.specs.Accepted.{acceptsStream, AcceptedChannel}
 use Rattle.voice.specs.declared.Channel.{Channel}
-use Rattle.plain_chip.specs.Slots.{Slot, slotPoked}
-use Rattle.plain_chip.specs.Good.{SlotOk}
-use Rattle.plain_chip.proofs.Kept.{CoherentAt, coherent-none}
+use Rattle.slots.specs.Slots.{Slot, slotPoked}
+use Rattle.slots.specs.Good.{SlotOk}
+use Rattle.slots.proofs.Kept.{CoherentAt, coherent-none}
 
 -- a valid cache is a stream's
 valid-stream : (c : Channel) (n : ℕ) → acceptsStream c n ≡ true → c .stream .valid ≡ true → isSqv4 (c .registers .«waveform_type») ≡ true

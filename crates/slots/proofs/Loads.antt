@@ -15,10 +15,11 @@ use Rattle.version.specs.declared.SguVersion.{SguVersion}
 use Rattle.registers.specs.Queue.{queued, FitEntries}
 use Rattle.registers.proofs.Ring.{length-queued, queued-part}
 use Rattle.voice.specs.Accepted.{acceptsStream}
-use Rattle.plain_chip.specs.Slots.{Slot}
-use Rattle.plain_chip.specs.Voices.{PlainVoice, plainOf, channelWith, slotLoaded}
-use Rattle.plain_chip.specs.Good.{Bytes, FitVoice, SlotOk}
-use Rattle.plain_chip.proofs.Kept.{coherent-none}
+use Rattle.slots.specs.Slots.{Slot, plainOf, channelWith, slotLoaded}
+use Rattle.plain_chip.specs.Voices.{PlainVoice}
+use Rattle.plain_chip.specs.Good.{Bytes, FitVoice}
+use Rattle.slots.specs.Good.{SlotOk}
+use Rattle.slots.proofs.Kept.{coherent-none}
 
 -- ---- a list put over the start of another
 put-first : {A : Type 0} (l xs : List A) → length xs ≤ length l → take (length xs) (sets l 0 xs) ≡ xs

@@ -5,16 +5,16 @@ use Prim.Native.Nat.{ℕ}
 use lib.IntN.{pos}
 use lib.ListN.{length, replicate, length-replicate}
 use Rattle.version.specs.declared.SguVersion.{SguVersion}
-use Rattle.plain_chip.specs.Slots.{emptySlot}
-use Rattle.plain_chip.specs.Voices.{plainOf}
-use Rattle.plain_chip.specs.Models.{slots, plains}
-use Rattle.plain_chip.specs.Good.{SlotOk}
-use Rattle.plain_chip.proofs.Fits.{entries-replicate}
-use Rattle.plain_chip.proofs.Writes.{same-write-control, same-write-pcm, same-write-wave, same-after-read, same-fresh, same-reset, same-version, same-poked, ok-fresh, ok-write-control, ok-write-pcm, ok-after-read, ok-write-wave, ok-reset, ok-accepted, ok-version}
-use Rattle.plain_chip.proofs.Loads.{same-loaded, ok-loaded}
-use Rattle.plain_chip.proofs.Pokes.{ok-poked}
-use Rattle.plain_chip.proofs.Ticks.{same-tick}
+use Rattle.slots.specs.Slots.{emptySlot, plainOf}
+use Rattle.slots.specs.Models.{slots}
+use Rattle.plain_chip.specs.Models.{plains}
+use Rattle.slots.specs.Good.{SlotOk}
+use Rattle.slots.proofs.Fits.{entries-replicate}
+use Rattle.slots.proofs.Writes.{same-write-control, same-write-pcm, same-write-wave, same-after-read, same-fresh, same-reset, same-version, same-poked, ok-fresh, ok-write-control, ok-write-pcm, ok-after-read, ok-write-wave, ok-reset, ok-accepted, ok-version}
+use Rattle.slots.proofs.Loads.{same-loaded, ok-loaded}
+use Rattle.slots.proofs.Pokes.{ok-poked}
+use Rattle.slots.proofs.Ticks.{same-tick}
 use Rattle.plain_chip.proofs.Sims.{Sim}
 
 pub ok-empty : (version : SguVersion) (ram : List ℕ) → SlotOk version ram emptySlot
 ok-empty version ram = ok-fresh version ram (replicate 2048 (pos 0)) (length-replicate 2048 (pos 0)) (entries-replicate 2048)

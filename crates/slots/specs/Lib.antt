@@ -1,0 +1,4 @@
+pub mod Slots
+pub mod Ticks
+pub mod Models
+pub mod Good

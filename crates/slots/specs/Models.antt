@@ -1,0 +1,28 @@
+-- The chip's voices as a model, the chip over them with its lent buffers, and the plain chip that it is.
+use mathlib.Core.List.{map}
+use Rattle.slots.specs.Slots.{Slot, emptySlot, slotWriteControl, slotWritePcm, slotAfterRead, slotWriteWave, slotReset, slotSetVersion, slotPoked, plainOf, slotLoaded}
+use Rattle.slots.specs.Ticks.{slotTick}
+use Rattle.plain_chip.specs.Models.{Model}
+use Rattle.plain_chip.specs.Chips.{Chip, Plain}
+
+abbrev pub slots : Model Slot
+slots = record {
+  absent = emptySlot;
+  session = plainOf;
+  load = slotLoaded;
+  reset = slotReset;
+  setVersion = slotSetVersion;
+  writeControl = slotWriteControl;
+  writePcm = slotWritePcm;
+  writeWave = slotWriteWave;
+  afterRead = slotAfterRead;
+  poked = slotPoked;
+  tick = slotTick;
+}
+
+abbrev pub World : Type 0
+World = Chip Slot
+
+-- the plain chip that a chip is
+abbrev pub plain : World → Plain
+plain w = record { version = w .version; ram = w .ram; voices = map plainOf (w .voices) }
