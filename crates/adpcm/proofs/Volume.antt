@@ -11,9 +11,9 @@ use mir.Val.{SFits}
 use Rattle.num.specs.Integers.{up, down}
 use Rattle.num.proofs.Choice.{cond-by}
 use Rattle.num.proofs.Integers.{fit, fit-up, fit-down, abs-is, one-zero, ltZ-false, up-minus, down-minus}
-use Rattle.adpcm.specs.Codes.{volumeOf}
+use Rattle.adpcm.specs.Codes.{appliedVolume}
 
-pub volume-fits : (p : ℤ) (v : ℕ) → SFits w16 p → v ≤ 255 → SFits w16 (volumeOf p v)
+pub volume-fits : (p : ℤ) (v : ℕ) → SFits w16 p → v ≤ 255 → SFits w16 (appliedVolume p v)
 volume-fits p v f h =
     let m : natAbs p * v ≤ natAbs p * 255 = mul-le-mul-left (natAbs p) h in
     let n = (natAbs p * v + 127) / 255 in

@@ -80,12 +80,12 @@ decodeCode version k s code = decodeAt version k s (stepSize (s .index)) code
 
 -- ---- the volume, in 255ths
 -- version 3: to the nearest, a tie away from zero
-abbrev pub volumeOf : ℤ → ℕ → ℤ
-volumeOf p volume = signed (ltZ p (pos 0)) ((natAbs p * volume + 127) / 255)
+abbrev pub appliedVolume : ℤ → ℕ → ℤ
+appliedVolume p volume = signed (ltZ p (pos 0)) ((natAbs p * volume + 127) / 255)
 
 -- versions 1 and 2: toward zero
-abbrev pub legacyVolumeOf : ℤ → ℕ → ℤ
-legacyVolumeOf p volume = quotZ (p *ℤ pos volume) (pos 255)
+abbrev pub legacyVolume : ℤ → ℕ → ℤ
+legacyVolume p volume = quotZ (p *ℤ pos volume) (pos 255)
 
 -- ---- packed codes, the first lowest; past the last byte there are zeros
 abbrev pub codeAt : List ℕ → ℕ → ℕ → ℕ

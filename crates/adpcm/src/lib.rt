@@ -6,7 +6,7 @@ ghost use lib.IntN.{ℤ, pos, natAbs};
 ghost use lib.ListN.{getD};
 ghost use Rattle.num.specs.Bytes.{field};
 ghost use Rattle.adpcm.specs.Ima.{stepSizes, stepSize, indexTable, difference as imaDifference, indexAfter};
-ghost use Rattle.adpcm.specs.Codes.{variantOf, bitsOf, payloadBytes, fragmentSize, legacyFragmentSize, levelsOf, levelIndexes, levelDifference, deltaAt, deltaOf, adjustOf, updateOf, decodeAt, decodeCode, volumeOf, legacyVolumeOf, codeAt};
+ghost use Rattle.adpcm.specs.Codes.{variantOf, bitsOf, payloadBytes, fragmentSize, legacyFragmentSize, levelsOf, levelIndexes, levelDifference, deltaAt, deltaOf, adjustOf, updateOf, decodeAt, decodeCode, appliedVolume, legacyVolume, codeAt};
 
 pub enum Variant {
     H,
@@ -334,7 +334,7 @@ pub fn decode_at(version: u8, variant: Variant, state: State, size: u16, code: u
 
 // Version 3's volume: to the nearest 255th, a tie away from zero.
 pub fn apply_volume(reconstructed: i16, volume: u8) -> i16
-    ensures { λ r. ⌜ r ≡ volumeOf reconstructed volume ⌝ }
+    ensures { λ r. ⌜ r ≡ appliedVolume reconstructed volume ⌝ }
 {
     let size = num::magnitude(reconstructed as i32);
     let rounded = (size * (volume as u32) + 127) / 255;
@@ -343,7 +343,7 @@ pub fn apply_volume(reconstructed: i16, volume: u8) -> i16
 
 // The older volume: toward zero.
 pub fn apply_legacy_volume(reconstructed: i16, volume: u8) -> i16
-    ensures { λ r. ⌜ r ≡ legacyVolumeOf reconstructed volume ⌝ }
+    ensures { λ r. ⌜ r ≡ legacyVolume reconstructed volume ⌝ }
 {
     ((reconstructed as i32) * (volume as i32) / 255) as i16
 }

@@ -11,9 +11,9 @@ use Rattle.plain_chip.specs.Voices.{PlainVoice}
 use Rattle.plain_chip.specs.Models.{plains}
 use Rattle.plain_chip.specs.Chips.{Plain}
 use Rattle.plain_chip.specs.Good.{FitVoice}
-use Rattle.call_lists.specs.Runs.{Ran, after, trace}
+use Rattle.call_lists.specs.Runs.{Outcome, after, trace}
 use Rattle.call_lists.specs.Texts.{Texts, TextsOk, VoiceRead}
-use Rattle.call_lists.specs.Calls.{Answer, readVoice, voiceTold, replies, done, run}
+use Rattle.call_lists.specs.Calls.{CallAnswer, readVoice, voiceTold, replies, done, run}
 use Rattle.call_lists.specs.Seen.{Seen, linesFrom}
 
 module _ (t : Texts) (texts : TextsOk t) (version : SguVersion) (ram : List ℕ) where
@@ -51,11 +51,11 @@ module _ (t : Texts) (texts : TextsOk t) (version : SguVersion) (ram : List ℕ)
 
   -- and each is taken
   pub read-done : (show : Plain → Seen) (k : ℕ) (l : List PlainVoice) (c : Plain) → c .version ≡ version → k + length l ≤ 8 → Every (FitVoice version) l
-      → map (λ (r : Ran Seen Answer). r .answer) (trace (run plains t) show c (map readVoice (linesFrom t k l))) ≡ replicate (length l) (replies done)
+      → map (λ (r : Outcome Seen CallAnswer). r .answer) (trace (run plains t) show c (map readVoice (linesFrom t k l))) ≡ replicate (length l) (replies done)
   unfolding run
   read-done show k [] c e h p = refl
   read-done show k (v ∷ l) c e h p =
       let back : t .readVoice (c .version) (t .voiceText k v) ≡ VoiceRead.voice k v = ap (λ (x : SguVersion). t .readVoice x (t .voiceText k v)) e ∙ texts .voice-back version k v (omega arith) (p .0) in
       let told : voiceTold plains t c (t .readVoice (c .version) (t .voiceText k v)) ≡ voiceTold plains t c (VoiceRead.voice k v) = ap (voiceTold plains t c) back in
-      ap (λ (r : Ran Plain Answer). r .answer ∷ map (λ (r : Ran Seen Answer). r .answer) (trace (run plains t) show (r .next) (map readVoice (linesFrom t (suc k) l)))) told
-      ∙ ap (λ (m : List Answer). replies done ∷ m) (read-done show (suc k) l (voiceTold plains t c (VoiceRead.voice k v) .next) e (omega arith) (p .1))
+      ap (λ (r : Outcome Plain CallAnswer). r .answer ∷ map (λ (r : Outcome Seen CallAnswer). r .answer) (trace (run plains t) show (r .next) (map readVoice (linesFrom t (suc k) l)))) told
+      ∙ ap (λ (m : List CallAnswer). replies done ∷ m) (read-done show (suc k) l (voiceTold plains t c (VoiceRead.voice k v) .next) e (omega arith) (p .1))

@@ -4,11 +4,12 @@ use mathlib.Core.List.{List, _++_, map}
 use Prim.Native.Nat.{ℕ, zero, suc}
 use lib.IntN.{ℤ}
 use lib.ListN.{length}
+use Rattle.sizes.specs.Sizes.{numChannels}
 use Rattle.version.specs.declared.SguVersion.{SguVersion}
 use Rattle.sides.specs.Sides.{sideSum}
 use Rattle.plain_chip.specs.Lists.{Every}
 use Rattle.plain_chip.specs.Models.{Model}
-use Rattle.plain_chip.specs.Frames.{Played, frame}
+use Rattle.plain_chip.specs.Frames.{ModelTurns, frame}
 use Rattle.plain_chip.specs.Good.{Bytes}
 use Rattle.plain_chip.proofs.Sims.{Sim}
 use Rattle.plain_chip.proofs.Frames.{same-turned, keeps-turned, length-turned}
@@ -18,8 +19,8 @@ abbrev pub mixSeen : {A B : Type 0} → (A → B) → Mix A → Mix B
 mixSeen g x = record { voices = map g (x .voices); left = x .left; right = x .right; values = x .values }
 
 -- a frame more
-abbrev then : {A : Type 0} → (ℤ → ℤ → ℤ) → ℕ → Mix A → Played A → Mix A
-then plus n b f = record { voices = f .voices; left = added plus (b .left) n (sideSum 8 (f .stems) 0); right = added plus (b .right) n (sideSum 8 (f .stems) 1); values = b .values ++ f .values }
+abbrev then : {A : Type 0} → (ℤ → ℤ → ℤ) → ℕ → Mix A → ModelTurns A → Mix A
+then plus n b f = record { voices = f .voices; left = added plus (b .left) n (sideSum numChannels (f .stems) 0); right = added plus (b .right) n (sideSum numChannels (f .stems) 1); values = b .values ++ f .values }
 
 pub length-mixed : {A : Type 0} (m : Model A) (plus : ℤ → ℤ → ℤ) (version : SguVersion) (ram : List ℕ) (n : ℕ) (x : Mix A) → length (mixed m plus version ram n x .voices) ≡ length (x .voices)
 unfolding mixed

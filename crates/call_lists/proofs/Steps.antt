@@ -7,40 +7,41 @@ use Prim.Native.Nat.{ℕ, _*_, min}
 use lib.Dec.{eqb}
 use lib.IntN.{ℤ}
 use lib.ListN.{length}
+use Rattle.sizes.specs.Sizes.{stemsPerFrame}
 use Rattle.version.specs.declared.SguVersion.{SguVersion}
 use Rattle.sides.specs.Sides.{saturating, wrapping}
 use Rattle.plain_chip.specs.Voices.{PlainVoice}
 use Rattle.plain_chip.specs.Models.{Model}
-use Rattle.plain_chip.specs.Frames.{Played}
-use Rattle.plain_chip.specs.Chips.{Chip, withVoices}
+use Rattle.plain_chip.specs.Frames.{ModelTurns}
+use Rattle.plain_chip.specs.Chips.{ModelChip, withVoices}
 use Rattle.plain_chip.specs.Good.{ChipOk}
 use Rattle.plain_chip.proofs.Sims.{Sim}
 use Rattle.plain_chip.proofs.Calls.{chipSeen}
 use Rattle.plain_chip.proofs.Calls as calls
-use Rattle.call_lists.specs.Runs.{Ran}
+use Rattle.call_lists.specs.Runs.{Outcome}
 use Rattle.call_lists.specs.Mixing.{Mix, clearedTo}
 use Rattle.call_lists.specs.Texts.{Texts, TextsOk, Told, VoiceRead, voice, HeadRead, head}
-use Rattle.call_lists.specs.Calls.{Call, reset, setVersion, resetChannel, writeRegister, readRegister, peekRegister, writeChannelControl, readChannelControl, writeChannelPcmReg, readChannelPcmReg, writeChannelWavetable, readChannelWavetable, wavetableLength, interpolates, writePcmRam, readPcmRam, generateSample, clock, clockMixed, clockMixedInto, clockMixedIntoI32, writeHead, readHead, writeVoice, readVoice, done, byte, count, flag, sample, Answer, replies, plays, wrote, gives, mixes, mixedTo, headTold, voiceTold, run}
+use Rattle.call_lists.specs.Calls.{Call, reset, setVersion, resetChannel, writeRegister, readRegister, peekRegister, writeChannelControl, readChannelControl, writeChannelPcmReg, readChannelPcmReg, writeChannelWavetable, readChannelWavetable, wavetableLength, interpolates, writePcmRam, readPcmRam, generateSample, clock, clockMixed, clockMixedInto, clockMixedIntoI32, writeHead, readHead, writeVoice, readVoice, done, byte, count, flag, sample, CallAnswer, replies, plays, lineAnswer, gives, mixes, mixedTo, headTold, voiceTold, run}
 use Rattle.call_lists.specs.Seen.{FitCall}
 use Rattle.call_lists.proofs.Mixing.{length-mixed, keeps-mixed, same-mixed}
 
 module _ {A B : Type 0} {g : A → B} {P : SguVersion → List ℕ → A → Type 0} {a : Model A} {b : Model B} (sim : Sim g P a b) (t : Texts) (texts : TextsOk t) where
-  pub record Same (x : Ran (Chip A) Answer) (y : Ran (Chip B) Answer) : Type 0 where
+  pub record Same (x : Outcome (ModelChip A) CallAnswer) (y : Outcome (ModelChip B) CallAnswer) : Type 0 where
     pub next : chipSeen g (x .next) ≡ y .next
     pub answer : x .answer ≡ y .answer
     pub ok : ChipOk P (x .next)
 
   -- a choice between two
-  either : (s : Bool) (x x′ : Ran (Chip A) Answer) (y y′ : Ran (Chip B) Answer) → Same x y → Same x′ y′ → Same (cond s x x′) (cond s y y′)
+  either : (s : Bool) (x x′ : Outcome (ModelChip A) CallAnswer) (y y′ : Outcome (ModelChip B) CallAnswer) → Same x y → Same x′ y′ → Same (cond s x x′) (cond s y y′)
   either true x x′ y y′ e f = e
   either false x x′ y y′ e f = f
 
-  module _ (c : Chip A) (ok : ChipOk P c) where
-    abbrev d : Chip B
+  module _ (c : ModelChip A) (ok : ChipOk P c) where
+    abbrev d : ModelChip B
     d = chipSeen g c
 
     -- a call that changes nothing
-    still : (x y : Answer) → x ≡ y → Same (gives a t c x) (gives b t d y)
+    still : (x y : CallAnswer) → x ≡ y → Same (gives a t c x) (gives b t d y)
     still x y e = record { next = refl; answer = e; ok = ok }
 
     -- frames added to sides
@@ -92,16 +93,16 @@ module _ {A B : Type 0} {g : A → B} {P : SguVersion → List ℕ → A → Typ
     step (generateSample ch) f =
         let e = calls.same-generated sim c ok ch in
         record {
-          next = ap (λ (r : Played B). withVoices d (r .voices)) e;
-          answer = ap (λ (r : Played B). plays (sample (r .sample)) [] (r .values)) e;
+          next = ap (λ (r : ModelTurns B). withVoices d (r .voices)) e;
+          answer = ap (λ (r : ModelTurns B). plays (sample (r .sample)) [] (r .values)) e;
           ok = calls.ok-generated sim c ok ch;
         }
     step (clock n stems) f =
         let e = calls.same-clocked sim c ok n in
-        either (eqb (length stems) (16 * n)) _ _ _ _
+        either (eqb (length stems) (stemsPerFrame * n)) _ _ _ _
         (record {
-          next = ap (λ (r : Played B). withVoices d (r .voices)) e;
-          answer = ap (λ (r : Played B). plays done (r .stems ∷ []) (r .values)) e;
+          next = ap (λ (r : ModelTurns B). withVoices d (r .voices)) e;
+          answer = ap (λ (r : ModelTurns B). plays done (r .stems ∷ []) (r .values)) e;
           ok = calls.ok-clocked sim c ok n;
         })
         (still _ _ refl)
@@ -110,5 +111,5 @@ module _ {A B : Type 0} {g : A → B} {P : SguVersion → List ℕ → A → Typ
     step (clockMixedIntoI32 left right) f = mix wrapping left right
     step (writeHead out) f = still _ _ refl
     step (readHead text) f = heads (t .readHead text)
-    step (writeVoice ch out) f = still _ _ (ap (λ (v : PlainVoice). wrote (t .voiceText ch v) out) (calls.same-voice sim c ch))
+    step (writeVoice ch out) f = still _ _ (ap (λ (v : PlainVoice). lineAnswer (t .voiceText ch v) out) (calls.same-voice sim c ch))
     step (readVoice text) f = voices (t .readVoice (c .version) text) (texts .told (c .version) text)

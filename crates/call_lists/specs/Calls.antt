@@ -6,12 +6,13 @@ use lib.Dec.{eqb, leb}
 use lib.IntN.{ℤ}
 use lib.ListN.{length}
 use lib.Seq.{sets}
+use Rattle.sizes.specs.Sizes.{stemsPerFrame}
 use Rattle.version.specs.declared.SguVersion.{SguVersion}
 use Rattle.sides.specs.Sides.{saturating, wrapping}
 use Rattle.plain_chip.specs.Models.{Model}
-use Rattle.plain_chip.specs.Chips.{Chip, withVoices, voiceAt, loadVoice}
+use Rattle.plain_chip.specs.Chips.{ModelChip, withVoices, fieldsAt, loadVoice}
 use Rattle.plain_chip.specs.Chips as chips
-use Rattle.call_lists.specs.Runs.{Ran}
+use Rattle.call_lists.specs.Runs.{Outcome}
 use Rattle.call_lists.specs.Mixing.{Mix, mixed, clearedTo}
 use Rattle.call_lists.specs.Texts.{Texts, VoiceRead, voice, HeadRead, head}
 
@@ -53,48 +54,48 @@ pub data Reply : Type 0 where
   refused : List ℕ → Reply
 
 -- the lent stems or sides and the lent text as the call left them, and the values ahead of the volume of its ticks
-pub record Answer : Type 0 where
+pub record CallAnswer : Type 0 where
   pub reply : Reply
   pub sides : List (List ℤ)
   pub text : List ℕ
   pub values : List ℤ
 
-abbrev pub replies : Reply → Answer
+abbrev pub replies : Reply → CallAnswer
 replies r = record { reply = r; sides = []; text = []; values = [] }
 
-abbrev pub plays : Reply → List (List ℤ) → List ℤ → Answer
+abbrev pub plays : Reply → List (List ℤ) → List ℤ → CallAnswer
 plays r sides values = record { reply = r; sides = sides; text = []; values = values }
 
 -- a line written to the start of a lent text, or refused
-abbrev pub wrote : List ℕ → List ℕ → Answer
-wrote line out =
+abbrev pub lineAnswer : List ℕ → List ℕ → CallAnswer
+lineAnswer line out =
     cond (leb (length line) (length out)) (record { reply = count (length line); sides = []; text = sets out 0 line; values = [] })
     (record { reply = refused (15 ∷ []); sides = []; text = out; values = [] })
 
 module _ {A : Type 0} (m : Model A) (t : Texts) where
-  abbrev pub gives : Chip A → Answer → Ran (Chip A) Answer
+  abbrev pub gives : ModelChip A → CallAnswer → Outcome (ModelChip A) CallAnswer
   gives c a = record { next = c; answer = a }
 
-  abbrev pub mixes : (ℤ → ℤ → ℤ) → Chip A → List ℤ → List ℤ → Mix A
+  abbrev pub mixes : (ℤ → ℤ → ℤ) → ModelChip A → List ℤ → List ℤ → Mix A
   mixes plus c left right = mixed m plus (c .version) (c .ram) (min (length left) (length right)) (record { voices = c .voices; left = left; right = right; values = [] })
 
-  abbrev pub mixedTo : Chip A → Mix A → Ran (Chip A) Answer
+  abbrev pub mixedTo : ModelChip A → Mix A → Outcome (ModelChip A) CallAnswer
   mixedTo c x = gives (withVoices c (x .voices)) (plays done (x .left ∷ x .right ∷ []) (x .values))
 
-  abbrev pub headTold : Chip A → HeadRead → Ran (Chip A) Answer
+  abbrev pub headTold : ModelChip A → HeadRead → Outcome (ModelChip A) CallAnswer
   headTold c (head version) = gives (chips.setVersion m version c) (replies done)
   headTold c (HeadRead.faulty field) = gives c (replies (refused (16 ∷ field ∷ [])))
 
-  abbrev pub voiceTold : Chip A → VoiceRead → Ran (Chip A) Answer
+  abbrev pub voiceTold : ModelChip A → VoiceRead → Outcome (ModelChip A) CallAnswer
   voiceTold c (voice ch fields) = gives (loadVoice m ch fields c) (replies done)
   voiceTold c (VoiceRead.faulty field) = gives c (replies (refused (16 ∷ field ∷ [])))
 
-  abbrev pub clocks : ℕ → List ℤ → Chip A → Ran (Chip A) Answer
+  abbrev pub clocks : ℕ → List ℤ → ModelChip A → Outcome (ModelChip A) CallAnswer
   clocks n stems c =
-      cond (eqb (length stems) (16 * n)) (gives (chips.afterClocked m n c) (plays done (chips.clocked m n c .stems ∷ []) (chips.clocked m n c .values)))
+      cond (eqb (length stems) (stemsPerFrame * n)) (gives (chips.afterClocked m n c) (plays done (chips.clocked m n c .stems ∷ []) (chips.clocked m n c .values)))
       (gives c (plays (refused (14 ∷ [])) (stems ∷ []) []))
 
-  unfoldable pub run : Chip A → Call → Ran (Chip A) Answer
+  unfoldable pub run : ModelChip A → Call → Outcome (ModelChip A) CallAnswer
   run c reset = gives (chips.reset m c) (replies done)
   run c (setVersion version) = gives (chips.setVersion m version c) (replies done)
   run c (resetChannel ch) = gives (chips.resetChannel m ch c) (replies done)
@@ -118,7 +119,7 @@ module _ {A : Type 0} (m : Model A) (t : Texts) where
       mixedTo c (mixes saturating c (clearedTo n left) (clearedTo n right))
   run c (clockMixedInto left right) = mixedTo c (mixes saturating c left right)
   run c (clockMixedIntoI32 left right) = mixedTo c (mixes wrapping c left right)
-  run c (writeHead out) = gives c (wrote (t .headText (c .version)) out)
+  run c (writeHead out) = gives c (lineAnswer (t .headText (c .version)) out)
   run c (readHead text) = headTold c (t .readHead text)
-  run c (writeVoice ch out) = gives c (wrote (t .voiceText ch (voiceAt m c ch)) out)
+  run c (writeVoice ch out) = gives c (lineAnswer (t .voiceText ch (fieldsAt m c ch)) out)
   run c (readVoice text) = voiceTold c (t .readVoice (c .version) text)

@@ -4,6 +4,7 @@ use Prim.Native.Nat.{ℕ, zero, suc, min}
 use lib.IntN.{ℤ, pos}
 use lib.ListN.{length, getD, set, replicate}
 use lib.Seq.{sets}
+use Rattle.sizes.specs.Sizes.{numChannels}
 use Rattle.version.specs.declared.SguVersion.{SguVersion}
 use Rattle.sides.specs.Sides.{sideSum}
 use Rattle.plain_chip.specs.Models.{Model}
@@ -27,7 +28,7 @@ module _ {A : Type 0} (m : Model A) (plus : ℤ → ℤ → ℤ) (version : SguV
   mixed (suc n) x =
       let b = mixed n x in
       let f = frame m version ram (b .voices) in
-      record { voices = f .voices; left = added plus (b .left) n (sideSum 8 (f .stems) 0); right = added plus (b .right) n (sideSum 8 (f .stems) 1); values = b .values ++ f .values }
+      record { voices = f .voices; left = added plus (b .left) n (sideSum numChannels (f .stems) 0); right = added plus (b .right) n (sideSum numChannels (f .stems) 1); values = b .values ++ f .values }
 
 -- zeros, as far as a side is served
 abbrev pub clearedTo : ℕ → List ℤ → List ℤ

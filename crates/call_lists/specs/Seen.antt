@@ -4,7 +4,7 @@ use Prim.Native.Nat.{ℕ, suc, _<_}
 use Rattle.version.specs.declared.SguVersion.{SguVersion}
 use Rattle.plain_chip.specs.Voices.{PlainVoice}
 use Rattle.plain_chip.specs.Models.{Model}
-use Rattle.plain_chip.specs.Chips.{Chip}
+use Rattle.plain_chip.specs.Chips.{ModelChip}
 use Rattle.call_lists.specs.Runs.{after}
 use Rattle.call_lists.specs.Texts.{Texts}
 use Rattle.call_lists.specs.Calls.{Call, reset, setVersion, resetChannel, writeRegister, readRegister, peekRegister, writeChannelControl, readChannelControl, writeChannelPcmReg, readChannelPcmReg, writeChannelWavetable, readChannelWavetable, wavetableLength, interpolates, writePcmRam, readPcmRam, generateSample, clock, clockMixed, clockMixedInto, clockMixedIntoI32, writeHead, readHead, writeVoice, readVoice}
@@ -24,11 +24,11 @@ abbrev pub seenOf : Texts → SguVersion → List ℕ → List PlainVoice → Se
 seenOf t version ram voices = record { head = t .headText version; lines = linesFrom t 0 voices; ram = ram }
 
 -- the session's fields of the voices
-abbrev pub voices : {A : Type 0} → Model A → Chip A → List PlainVoice
+abbrev pub voices : {A : Type 0} → Model A → ModelChip A → List PlainVoice
 voices m c = map (m .session) (c .voices)
 
-abbrev pub seen : {A : Type 0} → Model A → Texts → Chip A → Seen
-seen m t c = seenOf t (c .version) (c .ram) (voices m c)
+abbrev pub seenOver : {A : Type 0} → Model A → Texts → ModelChip A → Seen
+seenOver m t c = seenOf t (c .version) (c .ram) (voices m c)
 
 -- arguments that are bytes: a byte that is written, an offset in a wavetable
 abbrev pub FitCall : Call → Type 0

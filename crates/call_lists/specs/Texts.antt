@@ -2,6 +2,7 @@
 use mathlib.Core.Path.{_≡_}
 use mathlib.Core.List.{List}
 use Prim.Native.Nat.{ℕ, _<_}
+use Rattle.sizes.specs.Sizes.{numChannels}
 use Rattle.version.specs.declared.SguVersion.{SguVersion}
 use Rattle.plain_chip.specs.Voices.{PlainVoice}
 use Rattle.plain_chip.specs.Good.{FitVoice}
@@ -24,11 +25,11 @@ pub record Texts : Type 0 where
 
 -- what is read is one of the eight voices, its fields in their ranges
 abbrev pub Told : SguVersion → VoiceRead → Type 0
-Told version (voice ch v) = (ch < 8) × FitVoice version v
+Told version (voice ch v) = (ch < numChannels) × FitVoice version v
 Told version (faulty field) = Unit {0}
 
 -- what is written is read back
 pub record TextsOk (t : Texts) : Type 0 where
   pub head-back : (version : SguVersion) → t .readHead (t .headText version) ≡ head version
   pub told : (version : SguVersion) (text : List ℕ) → Told version (t .readVoice version text)
-  pub voice-back : (version : SguVersion) (ch : ℕ) (v : PlainVoice) → ch < 8 → FitVoice version v → t .readVoice version (t .voiceText ch v) ≡ voice ch v
+  pub voice-back : (version : SguVersion) (ch : ℕ) (v : PlainVoice) → ch < numChannels → FitVoice version v → t .readVoice version (t .voiceText ch v) ≡ voice ch v

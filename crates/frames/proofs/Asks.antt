@@ -7,6 +7,7 @@ use lib.Dec.{eqb, leb}
 use lib.ListN.{length}
 use lib.IntN.{ℤ}
 use borrow.Author.Tests.{leb-true, eqb-true, le-leb, lt-leb, eq-eqb, ne-eqb}
+use Rattle.sizes.specs.Sizes.{queueBuffer}
 use Rattle.num.proofs.Choice.{both}
 use Rattle.version.specs.declared.SguVersion.{SguVersion}
 use Rattle.voice.proofs.Tests.{fails, passes, first-arm, second-arm}
@@ -15,25 +16,25 @@ use Rattle.voices.specs.declared.Core.{Core}
 use Rattle.frames.specs.Turning.{noTurn, turned, mayRun, runOf}
 
 module _ (version : SguVersion) (ram : List ℕ) (queues : List ℤ) (n : ℕ) (core : Core) where
-  pub no-queues : (length queues ≡ 16384 → ⊥) → false ≡ mayRun version ram queues n core
+  pub no-queues : (length queues ≡ queueBuffer → ⊥) → false ≡ mayRun version ram queues n core
   unfolding mayRun
-  no-queues h = fails _ _ (ne-eqb (length queues) 16384 h)
+  no-queues h = fails _ _ (ne-eqb (length queues) queueBuffer h)
 
-  pub no-ticks : length queues ≡ 16384 → n < 1 → false ≡ mayRun version ram queues n core
+  pub no-ticks : length queues ≡ queueBuffer → n < 1 → false ≡ mayRun version ram queues n core
   unfolding mayRun
-  no-ticks e h = passes _ _ (eq-eqb (length queues) 16384 e) (fails _ _ (lt-leb 1 n h))
+  no-ticks e h = passes _ _ (eq-eqb (length queues) queueBuffer e) (fails _ _ (lt-leb 1 n h))
 
-  pub more-ticks : length queues ≡ 16384 → 1 ≤ n → 4 < n → false ≡ mayRun version ram queues n core
+  pub more-ticks : length queues ≡ queueBuffer → 1 ≤ n → 4 < n → false ≡ mayRun version ram queues n core
   unfolding mayRun
-  more-ticks e l h = passes _ _ (eq-eqb (length queues) 16384 e) (passes _ _ (le-leb 1 n l) (fails _ _ (lt-leb n 4 h)))
+  more-ticks e l h = passes _ _ (eq-eqb (length queues) queueBuffer e) (passes _ _ (le-leb 1 n l) (fails _ _ (lt-leb n 4 h)))
 
-  pub asked : length queues ≡ 16384 → 1 ≤ n → n ≤ 4 → acceptsCore core version (length ram) ≡ mayRun version ram queues n core
+  pub asked : length queues ≡ queueBuffer → 1 ≤ n → n ≤ 4 → acceptsCore core version (length ram) ≡ mayRun version ram queues n core
   unfolding mayRun
-  asked e l h = passes _ _ (eq-eqb (length queues) 16384 e) (passes _ _ (le-leb 1 n l) (passes _ _ (le-leb n 4 h) refl))
+  asked e l h = passes _ _ (eq-eqb (length queues) queueBuffer e) (passes _ _ (le-leb 1 n l) (passes _ _ (le-leb n 4 h) refl))
 
   -- what they say together
   pub record May : Type 0 where
-    pub entries : length queues ≡ 16384
+    pub entries : length queues ≡ queueBuffer
     pub low : 1 ≤ n
     pub high : n ≤ 4
     pub accepted : acceptsCore core version (length ram) ≡ true
@@ -41,7 +42,7 @@ module _ (version : SguVersion) (ram : List ℕ) (queues : List ℤ) (n : ℕ) (
   pub may : mayRun version ram queues n core ≡ true → May
   unfolding mayRun
   may e =
-      let a = both (eqb (length queues) 16384) _ e in
+      let a = both (eqb (length queues) queueBuffer) _ e in
       let b = both (leb 1 n) _ (a .1) in
       let d = both (leb n 4) _ (b .1) in
       record { entries = eqb-true _ _ (a .0); low = leb-true _ _ (b .0); high = leb-true _ _ (d .0); accepted = d .1 }

@@ -6,6 +6,7 @@ use native.Mathlib.Omega.{arith}
 use lib.Dec.{eqb}
 use lib.IntN.{ℤ}
 use lib.ListN.{take, drop}
+use Rattle.sizes.specs.Sizes.{fifoCapacity}
 use Rattle.num.specs.Lists.{part}
 use Rattle.registers.specs.declared.PcmRegisters.{PcmRegisters}
 use Rattle.registers.specs.declared.WaveformType.{WaveformType}
@@ -37,8 +38,8 @@ pub stream-is : (base n : ℕ) (ram : List ℕ) (p p' : Play) (volume panpot : �
 stream-is base n ram p p' volume panpot v v' samples r ep ev e =
     e ∙ ap (λ (x : Play). streamTicksAt base n ram x volume panpot (lent v samples)) ep ∙ ap (λ (x : StreamSound). streamTicksAt base n ram p' volume panpot (lent x samples)) ev
 
-pub queue-is : (n frequency panpot from to : ℕ) (queues : List ℤ) (v v' r : QueueSound) → to ≡ from + 2048 → v ≡ v' → r ≡ queueTicks n frequency panpot (take (to - from) (drop from queues)) v
-    → r ≡ queueTicks n frequency panpot (part queues from 2048) v'
+pub queue-is : (n frequency panpot from to : ℕ) (queues : List ℤ) (v v' r : QueueSound) → to ≡ from + fifoCapacity → v ≡ v' → r ≡ queueTicks n frequency panpot (take (to - from) (drop from queues)) v
+    → r ≡ queueTicks n frequency panpot (part queues from fifoCapacity) v'
 queue-is n frequency panpot from to queues v v' r et ev e =
-    let k : to - from ≡ 2048 = omega arith in
-    e ∙ ap (λ (m : ℕ). queueTicks n frequency panpot (take m (drop from queues)) v) k ∙ ap (queueTicks n frequency panpot (part queues from 2048)) ev
+    let k : to - from ≡ fifoCapacity = omega arith in
+    e ∙ ap (λ (m : ℕ). queueTicks n frequency panpot (take m (drop from queues)) v) k ∙ ap (queueTicks n frequency panpot (part queues from fifoCapacity)) ev

@@ -6,6 +6,7 @@ use native.Mathlib.Nat as N
 use native.Mathlib.Omega.{arith}
 use lib.ListN.{length}
 use lib.IntN.{ℤ}
+use Rattle.sizes.specs.Sizes.{numChannels}
 use Rattle.version.specs.declared.SguVersion.{SguVersion}
 use Rattle.ticks.specs.Mix.{silence}
 use Rattle.voices.specs.declared.Core.{Core}
@@ -52,7 +53,7 @@ module _ (version : SguVersion) (ram : List ℕ) (queues : List ℤ) (n : ℕ) w
   turned-round first m core zero = refl
   turned-round first m core (suc k) =
       ap (λ (t : Turns). oneTurn t (ticks ((first + 8 * m + k) % 8) (t .core))) (turned-round first m core k)
-      ∙ ap (λ (i : ℕ). oneTurn (go first k core) (ticks i (go first k core .core))) (let e : (first + 8 * m + k) % 8 ≡ (first + k) % 8 = omega arith in e)
+      ∙ ap (λ (i : ℕ). oneTurn (go first k core) (ticks i (go first k core .core))) (let e : (first + 8 * m + k) % 8 ≡ (first + k) % numChannels = omega arith in e)
 
 module _ (version : SguVersion) (ram : List ℕ) (queues : List ℤ) (core : Core) where
   -- m frames are eight turns each

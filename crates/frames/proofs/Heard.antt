@@ -9,6 +9,7 @@ use lib.Dec.{eqb, leb}
 use lib.IntN.{ℤ, pos}
 use lib.ListN.{length}
 use borrow.Author.Tests.{ne-eqb, le-leb}
+use Rattle.sizes.specs.Sizes.{numChannels}
 use Rattle.num.specs.Lists.{part}
 use Rattle.tone.specs.Mix.{volumeOf}
 use Rattle.version.specs.declared.SguVersion.{SguVersion}
@@ -36,7 +37,7 @@ use Rattle.voice.specs.declared.Kind.the-variants as kinds
 use Rattle.voices.specs.Core.{channelAt}
 use Rattle.voices.specs.Accepted.{SizedCore}
 use Rattle.voices.specs.declared.Core.{Core}
-use Rattle.frames.specs.Ticking.{voiced, target, seen, streamFrom, ticksAs, voiceTick}
+use Rattle.frames.specs.Ticking.{voiced, target, modulator, streamFrom, ticksAs, voiceTick}
 use Rattle.frames.specs.Values.{heardAs, valueAs, tickValue}
 
 sound-heard : (k : WaveformType) → soundingOf k ≡ kinds.Oscillator → (s : Setting) (p : PcmRegisters) (w ram : List ℕ) (ch : ℕ) (own : Bool) (t : Target) (v : Sound) → 0 < length ram
@@ -56,7 +57,7 @@ sounds : (b : Bool) (k : Kind) → cond b k Silent ≡ kinds.Oscillator → k �
 sounds true k e = e
 sounds false k e = cc
 
-module _ (version : SguVersion) (ram : List ℕ) (q : List ℤ) (ch : ℕ) (here : ch < 8) (k : Core) (sized : SizedCore k) (sides : Sides) where
+module _ (version : SguVersion) (ram : List ℕ) (q : List ℤ) (ch : ℕ) (here : ch < numChannels) (k : Core) (sized : SizedCore k) (sides : Sides) where
   abbrev c : Channel
   c = channelAt k ch
 
@@ -75,7 +76,7 @@ module _ (version : SguVersion) (ram : List ℕ) (q : List ℤ) (ch : ℕ) (here
   by-kind some Silent e = refl
   by-kind some kinds.Oscillator e =
       sound-heard (c .registers .«waveform_type») (sounds (c .pcm .active) (soundingOf (c .registers .«waveform_type»)) e) (settingOf (c .registers) (c .pcm .«sample_control») version) (c .pcm) (k .wavetables) ram ch
-      (eqb (target version ram q ch 1 k sides c) ch) (seen version ram q ch 1 k sides c) (record { oscillator = c .oscillator; sides = sides }) some
+      (eqb (target version ram q ch 1 k sides c) ch) (modulator version ram q ch 1 k sides c) (record { oscillator = c .oscillator; sides = sides }) some
   by-kind some Sqv4 e =
       let f = stream-here in
       ap (λ (r : Lent). r .sound .sides) f ∙ sym (ap (λ (r : Lent). heardAs Sqv4 c sides (r .sound .voice .q8)) f)

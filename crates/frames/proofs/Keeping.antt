@@ -21,7 +21,7 @@ use Rattle.registers.proofs.Accepted.{tick-accepted}
 use Rattle.registers.specs.Waveforms.{isSqv4}
 use Rattle.stream.specs.Accepted.{acceptsCache}
 use Rattle.stream.specs.Cache.{Stock, stock}
-use Rattle.stream.specs.Tick.{Found, absent, unheard, present, planOf, playedBy, tickOf}
+use Rattle.stream.specs.Tick.{FoundFile, absent, unheard, present, planOf, playedBy, tickOf}
 use Rattle.stream.specs.Cached.{cachedFound, cachedTick}
 use Rattle.stream.specs.declared.Plan.{Plan}
 use Rattle.stream.specs.declared.Plan.the-variants.{Stop, Sample}
@@ -39,13 +39,13 @@ use Rattle.ticks.specs.declared.Target.{Target}
 use Rattle.ticks.proofs.Ranges.{accepted-oscillator, oscillator-accepted}
 use Rattle.ticks.proofs.Sums.{room-none, heard-room, begins, sound-steady, queue-steady}
 use Rattle.voice.specs.Accepted.{acceptsStream, AcceptedChannel}
-use Rattle.voice.specs.Sounding.{playOf, soundOf, afterSound, queueSoundOf, afterQueue, servedOf, streamSoundOf, afterStream}
+use Rattle.voice.specs.Sounding.{playOf, silentSound, afterSound, queueSoundOf, afterQueue, servedOf, streamSoundOf, afterStream}
 use Rattle.voice.specs.Streaming.{Lent, lent, streamTick, streamTicks, streamTicksAt}
 use Rattle.voice.specs.declared.Channel.{Channel}
 use Rattle.voice.specs.declared.StreamSound.{StreamSound}
 use Rattle.voice.proofs.Tests.{first-arm}
 use Rattle.stream.proofs.Accepts.{accepts-free}
-use Rattle.frames.specs.Kept.{Bytes, FitChannel, Kept}
+use Rattle.frames.specs.Kept.{EachByte, FitSounding, Kept}
 use Rattle.frames.proofs.StreamRuns.{whole-is}
 
 pub silent-room : (n : ℕ) → Room n silence
@@ -59,14 +59,14 @@ unfolding queueTicks queueTick again
 queues-accepted frequency panpot q h zero v a = a
 queues-accepted frequency panpot q h (suc n) v a = tick-accepted (queueTicks n frequency panpot q v .fifo) q frequency h (queues-accepted frequency panpot q h n v a)
 
-module _ (c : Channel) (version : SguVersion) (ram : List ℕ) (n : ℕ) (small : n ≤ 2 ^ 18) (a : AcceptedChannel c version (length ram)) (f : FitChannel c) where
+module _ (c : Channel) (version : SguVersion) (ram : List ℕ) (n : ℕ) (small : n ≤ 2 ^ 18) (a : AcceptedChannel c version (length ram)) (f : FitSounding c) where
   -- ---- an oscillator
-  pub sound-kept : (w : List ℕ) (ch : ℕ) (own : Bool) (t : Target) → Bytes w → Bytes ram
-      → (let v = soundTicks n (c .registers .«waveform_type») (settingOf (c .registers) (c .pcm .«sample_control») version) (c .pcm) w ram ch own t (soundOf c) in Kept version (length ram) n (afterSound c v) (v .sides))
+  pub sound-kept : (w : List ℕ) (ch : ℕ) (own : Bool) (t : Target) → EachByte w → EachByte ram
+      → (let v = soundTicks n (c .registers .«waveform_type») (settingOf (c .registers) (c .pcm .«sample_control») version) (c .pcm) w ram ch own t (silentSound c) in Kept version (length ram) n (afterSound c v) (v .sides))
   unfolding acceptsStream
   sound-kept w ch own t tables bytes =
       let e =
-      sound-steady (settingOf (c .registers) (c .pcm .«sample_control») version) (f .volume) (f .panpot) (c .pcm) w ram (omega (arith, a .pcm .end)) (omega (arith, a .pcm .again)) tables bytes (c .registers .«waveform_type») n 0 ch own t (soundOf c) (omega arith)
+      sound-steady (settingOf (c .registers) (c .pcm .«sample_control») version) (f .volume) (f .panpot) (c .pcm) w ram (omega (arith, a .pcm .end)) (omega (arith, a .pcm .again)) tables bytes (c .registers .«waveform_type») n 0 ch own t (silentSound c) (omega arith)
       (begins (c .oscillator) (record { accepted = accepted-oscillator (c .oscillator) (a .oscillator); fits = f .oscillator })) in
       record {
         accepted = record { registers = a .registers; pcm = a .pcm; oscillator = oscillator-accepted _ (e .oscillator .accepted); fifo = a .fifo; stream = a .stream };
@@ -75,7 +75,7 @@ module _ (c : Channel) (version : SguVersion) (ram : List ℕ) (n : ℕ) (small 
       }
 
 -- ---- a queue
-module _ (c : Channel) (version : SguVersion) (ram n : ℕ) (small : n ≤ 2 ^ 18) (a : AcceptedChannel c version ram) (f : FitChannel c) where
+module _ (c : Channel) (version : SguVersion) (ram n : ℕ) (small : n ≤ 2 ^ 18) (a : AcceptedChannel c version ram) (f : FitSounding c) where
   pub queue-kept : (q : List ℤ) (r : QueueSound) → r ≡ queueTicks n (c .registers .frequency) (c .registers .panpot) q (queueSoundOf c) → FitFifo (r .fifo) → Room n (r .sides)
       → Kept version ram n (afterQueue c r) (r .sides)
   unfolding acceptsStream acceptsOscillator
@@ -94,7 +94,7 @@ module _ (c : Channel) (version : SguVersion) (ram n : ℕ) (small : n ≤ 2 ^ 1
 
 -- ---- a stream
 module _ (ram : List ℕ) (p : Play) where
-  found-phase : (phase : ℕ) (active : Bool) → phase < 2 ^ 64 → (x : Found Stock) → tickOf p phase active x .phase < 2 ^ 64
+  found-phase : (phase : ℕ) (active : Bool) → phase < 2 ^ 64 → (x : FoundFile Stock) → tickOf p phase active x .phase < 2 ^ 64
   found-phase phase active h (absent s) = h
   found-phase phase active h (unheard s) = h
   found-phase phase active h (present i read s) = by (planOf i p phase)
@@ -150,7 +150,7 @@ cache-accepted c ram e = go (c .stream .valid) refl
     go true v = both (isSqv4 (c .registers .«waveform_type»)) _ (first-arm (c .stream .valid) _ true v ∙ e) .1
     go false v = accepts-free (c .stream) (c .pcm .«start_addr») (c .pcm .«end_addr») ram v
 
-module _ (c : Channel) (version : SguVersion) (ram : List ℕ) (n : ℕ) (small : n ≤ 2 ^ 18) (a : AcceptedChannel c version (length ram)) (f : FitChannel c) (is : isSqv4 (c .registers .«waveform_type») ≡ true) where
+module _ (c : Channel) (version : SguVersion) (ram : List ℕ) (n : ℕ) (small : n ≤ 2 ^ 18) (a : AcceptedChannel c version (length ram)) (f : FitSounding c) (is : isSqv4 (c .registers .«waveform_type») ≡ true) where
   stream-stays : (v : StreamSound) → acceptsCache (v .voice .cache) (c .pcm .«start_addr») (c .pcm .«end_addr») (length ram) ≡ true → acceptsStream (afterStream c v) (length ram) ≡ true
   unfolding acceptsStream
   stream-stays v e = cond-by (λ (b : Bool). b ≡ true) (v .voice .cache .valid) _ true (λ h. together _ _ is e) (λ h. refl)

@@ -9,13 +9,14 @@ use native.Mathlib.Numerals.{add-one}
 use lib.ListN.{length, set, length-append}
 use lib.Seq.{sets, length-sets}
 use lib.IntN.{ℤ}
+use Rattle.sizes.specs.Sizes.{numChannels}
 use Rattle.version.specs.declared.SguVersion.{SguVersion}
 use Rattle.ticks.specs.Mix.{silence}
 use Rattle.ticks.specs.declared.Sides.{Sides}
 use Rattle.voices.specs.Accepted.{SizedCore, acceptsCore}
 use Rattle.voices.specs.declared.Core.{Core}
 use Rattle.voices.proofs.Accepting.{accepted-core}
-use Rattle.frames.specs.Kept.{Bytes}
+use Rattle.frames.specs.Kept.{EachByte}
 use Rattle.frames.specs.Ticking.{voiced, voiceTicks}
 use Rattle.frames.specs.Turning.{Turns, oneTurn, turned, afterTurns}
 use Rattle.frames.specs.declared.Turned.{Turned}
@@ -29,7 +30,7 @@ module _ (version : SguVersion) (ram : List ℕ) (queues : List ℤ) (first n : 
   abbrev done : ℕ → Turns
   done k = turned version ram queues first n k core₀
 
-  pub done-more : (k : ℕ) → done (k + 1) ≡ oneTurn (done k) (voiceTicks version ram queues ((first + k) % 8) n (voiced (done k .core) silence))
+  pub done-more : (k : ℕ) → done (k + 1) ≡ oneTurn (done k) (voiceTicks version ram queues ((first + k) % numChannels) n (voiced (done k .core) silence))
   unfolding turned
   done-more k = rw add-one
 
@@ -46,15 +47,15 @@ module _ (version : SguVersion) (ram : List ℕ) (queues : List ℤ) (first n : 
     pub sample : sides .sample ≡ done k .sample
     pub ready : Ready version (length ram) core
 
-  pub begin : SizedCore core₀ → Bytes (core₀ .wavetables) → acceptsCore core₀ version (length ram) ≡ true → Going 0 core₀ silence stems₀
+  pub begin : SizedCore core₀ → EachByte (core₀ .wavetables) → acceptsCore core₀ version (length ram) ≡ true → Going 0 core₀ silence stems₀
   unfolding turned
   begin sized bytes e = record { after = refl; given = refl; long = refl; sample = refl; ready = record { accepted = accepted-core core₀ version (length ram) sized e; bytes = bytes } }
 
-  module _ (k ch : ℕ) (core : Core) (sides : Sides) (stems : List ℤ) (g : Going k core sides stems) (place : ch ≡ (first + k) % 8) where
+  module _ (k ch : ℕ) (core : Core) (sides : Sides) (stems : List ℤ) (g : Going k core sides stems) (place : ch ≡ (first + k) % numChannels) where
     pub turn : (next : Core) (now : Sides) (written : List ℤ) → Turn version ram queues ch n core next now → written ≡ sets stems (2 * k) (now .left ∷ now .right ∷ []) → Going (k + 1) next now written
     turn next now written t w =
-        let e : voiced next now ≡ voiceTicks version ram queues ((first + k) % 8) n (voiced (done k .core) silence) =
-        t .same ∙ ap (λ (i : ℕ). voiceTicks version ram queues i n (voiced core silence)) place ∙ ap (λ (x : Core). voiceTicks version ram queues ((first + k) % 8) n (voiced x silence)) (g .after) in
+        let e : voiced next now ≡ voiceTicks version ram queues ((first + k) % numChannels) n (voiced (done k .core) silence) =
+        t .same ∙ ap (λ (i : ℕ). voiceTicks version ram queues i n (voiced core silence)) place ∙ ap (λ (x : Core). voiceTicks version ram queues ((first + k) % numChannels) n (voiced x silence)) (g .after) in
         let m : oneTurn (done k) (voiced next now) ≡ done (k + 1) = ap (oneTurn (done k)) e ∙ sym (done-more k) in
         record {
           after = ap (λ (x : Turns). x .core) m;

@@ -12,7 +12,7 @@ use Rattle.num.specs.Lists.{part}
 use Rattle.num.proofs.Choice.{cond-by}
 use Rattle.stream.specs.Cache.{Stock, stock}
 use Rattle.stream.specs.Accepted.{acceptsCache}
-use Rattle.stream.specs.Tick.{Ticked, unheard}
+use Rattle.stream.specs.Tick.{StreamTick, unheard}
 use Rattle.stream.specs.Cached.{cachedTick}
 use Rattle.stream.specs.declared.Play.{Play}
 use Rattle.stream.proofs.Accepts.{accepts-free}
@@ -31,7 +31,7 @@ module _ (ram : List ℕ) (p : Play) where
   tick-long phase active s = short (eqb (length (s .samples)) 128) refl
     where
       same : cachedTick ram p phase active s ≡ record { stream = s; phase = phase; active = active; value = pos 0 } → length (cachedTick ram p phase active s .stream .samples) ≡ length (s .samples)
-      same e = ap (λ (t : Ticked Stock). length (t .stream .samples)) e
+      same e = ap (λ (t : StreamTick Stock). length (t .stream .samples)) e
 
       kept : acceptsCache (s .cache) (p .start) (p .end) (length ram) ≡ true → length (cachedTick ram p phase active s .stream .samples) ≡ length (s .samples)
       kept a = tick-keeps ram p phase active s a .long

@@ -9,6 +9,7 @@ use lib.ListN.{length, length-set}
 use lib.Seq.{getD-set-same, getD-set-other}
 use lib.IntN.{ℤ}
 use borrow.Author.Tests.{eqb-true, eqb-false}
+use Rattle.sizes.specs.Sizes.{fifoCapacity, numChannels}
 use Rattle.num.specs.Lists.{part}
 use Rattle.tone.specs.Phase.{whole}
 use Rattle.tone.proofs.Sides.{ticks-wider}
@@ -31,7 +32,7 @@ use Rattle.stream.specs.Accepted.{acceptsCache}
 use Rattle.voice.specs.Accepted.{AcceptedChannel}
 use Rattle.voice.specs.Channel.{setPcm}
 use Rattle.voice.specs.Serving.{servedTicks}
-use Rattle.voice.specs.Sounding.{kindOf, playOf, soundOf, afterSound, queueSoundOf, afterQueue, windowAt, servedOf, afterServed, streamSoundOf, afterStream}
+use Rattle.voice.specs.Sounding.{kindOf, playOf, silentSound, afterSound, queueSoundOf, afterQueue, windowAt, servedOf, afterServed, streamSoundOf, afterStream}
 use Rattle.voice.specs.Kinds.{soundingOf}
 use Rattle.voice.specs.Streaming.{Lent, lent, streamTicksAt}
 use Rattle.voice.specs.declared.Channel.{Channel}
@@ -42,7 +43,7 @@ use Rattle.voice.specs.declared.StreamSound.{StreamSound}
 use Rattle.voices.specs.Accepted.{AcceptedCore}
 use Rattle.voices.specs.Core.{noChannel, channelAt, setChannel, setFragments}
 use Rattle.voices.specs.declared.Core.{Core}
-use Rattle.frames.specs.Kept.{Bytes, FitChannel, Kept, Keeps, KeepsAny}
+use Rattle.frames.specs.Kept.{EachByte, FitSounding, Kept, Keeps, KeepsAny}
 use Rattle.frames.specs.Ticking.{voiced, ticksAs, voiceTicks}
 use Rattle.frames.proofs.Keeping.{silent-room, cache-accepted, stream-kept}
 use Rattle.frames.proofs.ServedStreams.{ticks-most, rest-at, all-at}
@@ -52,7 +53,7 @@ use Rattle.frames.proofs.StreamRuns.{whole-long}
 -- a core between two turns
 pub record Ready (version : SguVersion) (ram : ℕ) (core : Core) : Type 0 where
   pub accepted : AcceptedCore core version ram
-  pub bytes : Bytes (core .wavetables)
+  pub bytes : EachByte (core .wavetables)
 
 -- a turn of n ticks of voice ch
 pub record Turn (version : SguVersion) (ram : List ℕ) (queues : List ℤ) (ch n : ℕ) (core after : Core) (sides : Sides) : Type 0 where
@@ -83,7 +84,7 @@ sounds : (b : Bool) (k : Kind) → cond b k kinds.Silent ≡ kinds.Sqv4 → b �
 sounds true k e = refl
 sounds false k e = absurd (let z : _≡_ {A = ℕ} 0 2 = ap numbered e in omega arith)
 
-module _ (version : SguVersion) (ram : List ℕ) (queues : List ℤ) (ch n : ℕ) (core : Core) (low : 1 ≤ n) (high : n ≤ 4) (there : ch < 8) (r : Ready version (length ram) core) where
+module _ (version : SguVersion) (ram : List ℕ) (queues : List ℤ) (ch n : ℕ) (core : Core) (low : 1 ≤ n) (high : n ≤ 4) (there : ch < numChannels) (r : Ready version (length ram) core) where
   abbrev c : Channel
   c = channelAt core ch
 
@@ -114,7 +115,7 @@ module _ (version : SguVersion) (ram : List ℕ) (queues : List ℤ) (ch n : ℕ
     bytes = r .bytes;
   }
     where
-      by : (j : ℕ) (b : Bool) → eqb j ch ≡ b → j < 8 → AcceptedChannel (channelAt (setFragments (setChannel core ch d) samples) j) version (length ram)
+      by : (j : ℕ) (b : Bool) → eqb j ch ≡ b → j < numChannels → AcceptedChannel (channelAt (setFragments (setChannel core ch d) samples) j) version (length ram)
       by j true e h =
           subst (λ (x : Channel). AcceptedChannel x version (length ram))
           (sym (ap (λ (i : ℕ). channelAt (setChannel core ch d) i) (eqb-true j ch e) ∙ getD-set-same (core .channels) ch d noChannel (omega (arith, r .accepted .sized .channels)))) k
@@ -125,20 +126,20 @@ module _ (version : SguVersion) (ram : List ℕ) (queues : List ℤ) (ch n : ℕ
 
   pub sound-turn : kindOf c ≡ kinds.Oscillator → (k : ℕ) (t : Target) (v : Sound) (d : Channel) → k ≡ targetChannel (c .registers) ch
       → t ≡ targetFrom (channelAt core k .oscillator) version (channelAt core k .pcm .«sample_control»)
-      → v ≡ soundTicks n (c .registers .«waveform_type») (settingOf (c .registers) (c .pcm .«sample_control») version) (c .pcm) (core .wavetables) ram ch (eqb (targetChannel (c .registers) ch) ch) t (soundOf c)
+      → v ≡ soundTicks n (c .registers .«waveform_type») (settingOf (c .registers) (c .pcm .«sample_control») version) (c .pcm) (core .wavetables) ram ch (eqb (targetChannel (c .registers) ch) ch) t (silentSound c)
       → Keeps version (length ram) n c (afterSound c v) (v .sides) → d ≡ afterSound c v → Turn version ram queues ch n core (setChannel core ch d) (v .sides)
   sound-turn e k t v d ek et ev kept ed =
       let s = kept a in
       record {
         same =
             ap (λ (x : Channel). voiced (setChannel core ch x) (v .sides)) ed
-            ∙ ap (λ (x : Sound). voiced (setChannel core ch (afterSound c x)) (x .sides)) (ev ∙ ap (λ (x : Target). soundTicks n (c .registers .«waveform_type») (settingOf (c .registers) (c .pcm .«sample_control») version) (c .pcm) (core .wavetables) ram ch (eqb (targetChannel (c .registers) ch) ch) x (soundOf c)) (et ∙ ap (λ (i : ℕ). targetFrom (channelAt core i .oscillator) version (channelAt core i .pcm .«sample_control»)) ek))
+            ∙ ap (λ (x : Sound). voiced (setChannel core ch (afterSound c x)) (x .sides)) (ev ∙ ap (λ (x : Target). soundTicks n (c .registers .«waveform_type») (settingOf (c .registers) (c .pcm .«sample_control») version) (c .pcm) (core .wavetables) ram ch (eqb (targetChannel (c .registers) ch) ch) x (silentSound c)) (et ∙ ap (λ (i : ℕ). targetFrom (channelAt core i .oscillator) version (channelAt core i .pcm .«sample_control»)) ek))
             ∙ at-once kinds.Oscillator e;
         ready = stored d (core .fragments) (subst (λ (x : Channel). AcceptedChannel x version (length ram)) (sym ed) (s .accepted)) (r .accepted .sized .fragments);
         room = wider n _ high (s .room);
       }
 
-  pub queue-turn : kindOf c ≡ kinds.FifoDac → (v : QueueSound) (d : Channel) → v ≡ queueTicks n (c .registers .frequency) (c .registers .panpot) (part queues (ch * 2048) 2048) (queueSoundOf c)
+  pub queue-turn : kindOf c ≡ kinds.FifoDac → (v : QueueSound) (d : Channel) → v ≡ queueTicks n (c .registers .frequency) (c .registers .panpot) (part queues (ch * fifoCapacity) fifoCapacity) (queueSoundOf c)
       → KeepsAny version n c (afterQueue c v) (v .sides) → d ≡ afterQueue c v → Turn version ram queues ch n core (setChannel core ch d) (v .sides)
   queue-turn e v d ev kept ed =
       let s = kept (length ram) a in
@@ -149,7 +150,7 @@ module _ (version : SguVersion) (ram : List ℕ) (queues : List ℤ) (ch n : ℕ
       }
 
   -- ---- a stream
-  module _ (e : kindOf c ≡ kinds.Sqv4) (f : FitChannel c) (s : Served) (es : s ≡ servedTicks n (windowAt c) (core .fragments) (ch * 128) (playOf c version) (c .registers .volume) (c .registers .panpot) (servedOf c)) where
+  module _ (e : kindOf c ≡ kinds.Sqv4) (f : FitSounding c) (s : Served) (es : s ≡ servedTicks n (windowAt c) (core .fragments) (ch * 128) (playOf c version) (c .registers .volume) (c .registers .panpot) (servedOf c)) where
     abbrev all : Lent
     all = streamTicksAt (ch * 128) n ram (playOf c version) (c .registers .volume) (c .registers .panpot) (lent (streamSoundOf c (servedOf c)) (core .fragments))
 

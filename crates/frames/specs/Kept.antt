@@ -10,11 +10,11 @@ use Rattle.ticks.specs.declared.Sides.{Sides}
 use Rattle.voice.specs.Accepted.{AcceptedChannel}
 use Rattle.voice.specs.declared.Channel.{Channel}
 
-abbrev pub Bytes : List ℕ → Type 0
-Bytes l = (i : ℕ) → getD l i 0 < 256
+abbrev pub EachByte : List ℕ → Type 0
+EachByte l = (i : ℕ) → getD l i 0 < 256
 
 -- the ranges that the types give
-pub record FitChannel (c : Channel) : Type 0 where
+pub record FitSounding (c : Channel) : Type 0 where
   pub oscillator : FitOscillator (c .oscillator)
   pub fifo : FitFifo (c .fifo)
   pub volume : c .registers .volume ≤ 255
@@ -24,7 +24,7 @@ pub record FitChannel (c : Channel) : Type 0 where
 -- a channel and its sides after n ticks from silence on; `ram` is the RAM's length
 pub record Kept (version : SguVersion) (ram n : ℕ) (c : Channel) (sides : Sides) : Type 0 where
   pub accepted : AcceptedChannel c version ram
-  pub fits : FitChannel c
+  pub fits : FitSounding c
   pub room : Room n sides
 
 -- ticks that make d of an accepted channel c

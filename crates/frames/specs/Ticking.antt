@@ -4,6 +4,7 @@ use mathlib.Core.List.{List}
 use Prim.Native.Nat.{ℕ, _*_}
 use lib.Dec.{eqb}
 use lib.IntN.{ℤ, pos}
+use Rattle.sizes.specs.Sizes.{fifoCapacity}
 use Rattle.num.specs.Lists.{part}
 use Rattle.version.specs.declared.SguVersion.{SguVersion}
 use Rattle.registers.specs.Control.{targetChannel}
@@ -38,17 +39,17 @@ module _ (version : SguVersion) (ram : List ℕ) (queues : List ℤ) (ch n : ℕ
   target = targetChannel (c .registers) ch
 
   -- the voice that modulates it, as it stands
-  abbrev pub seen : Target
-  seen = targetFrom (channelAt core target .oscillator) version (channelAt core target .pcm .«sample_control»)
+  abbrev pub modulator : Target
+  modulator = targetFrom (channelAt core target .oscillator) version (channelAt core target .pcm .«sample_control»)
 
   abbrev pub soundFrom : Sound
   soundFrom =
-      soundTicks n (c .registers .«waveform_type») (settingOf (c .registers) (c .pcm .«sample_control») version) (c .pcm) (core .wavetables) ram ch (eqb target ch) seen
+      soundTicks n (c .registers .«waveform_type») (settingOf (c .registers) (c .pcm .«sample_control») version) (c .pcm) (core .wavetables) ram ch (eqb target ch) modulator
       (record { oscillator = c .oscillator; sides = sides })
 
   -- its queue is the 2,048 entries from 2,048 times the channel on
   abbrev pub queueFrom : QueueSound
-  queueFrom = queueTicks n (c .registers .frequency) (c .registers .panpot) (part queues (ch * 2048) 2048) (record { fifo = c .fifo; sides = sides })
+  queueFrom = queueTicks n (c .registers .frequency) (c .registers .panpot) (part queues (ch * fifoCapacity) fifoCapacity) (record { fifo = c .fifo; sides = sides })
 
   -- its decoded fragments are the 128 samples from 128 times the channel on
   abbrev pub streamFrom : Lent

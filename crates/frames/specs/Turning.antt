@@ -5,6 +5,7 @@ use Prim.Native.Nat.{ℕ, zero, suc, _+_, _%_}
 use lib.Dec.{eqb, leb}
 use lib.ListN.{length}
 use lib.IntN.{ℤ, pos}
+use Rattle.sizes.specs.Sizes.{numChannels, queueBuffer, ticksPerFrame}
 use Rattle.version.specs.declared.SguVersion.{SguVersion}
 use Rattle.ticks.specs.Mix.{silence}
 use Rattle.voices.specs.Accepted.{acceptsCore}
@@ -33,11 +34,11 @@ module _ (version : SguVersion) (ram : List ℕ) (queues : List ℤ) where
   -- k turns of n ticks each
   unfoldable pub turned : ℕ → ℕ → ℕ → Core → Turns
   turned first n zero core = noTurn core
-  turned first n (suc k) core = oneTurn (turned first n k core) (voiceTicks version ram queues ((first + k) % 8) n (voiced (turned first n k core .core) silence))
+  turned first n (suc k) core = oneTurn (turned first n k core) (voiceTicks version ram queues ((first + k) % numChannels) n (voiced (turned first n k core .core) silence))
 
   -- a frame: four ticks of each of the eight voices
   abbrev pub frame : Core → Turns
-  frame core = turned 0 4 8 core
+  frame core = turned 0 ticksPerFrame numChannels core
 
   -- m frames, one after the other
   unfoldable pub frames : ℕ → Core → Turns
@@ -46,7 +47,7 @@ module _ (version : SguVersion) (ram : List ℕ) (queues : List ℤ) where
 
   -- what turns ask for: 16,384 queue entries, one to four ticks, accepted voices
   unfoldable pub mayRun : ℕ → Core → Bool
-  mayRun n core = eqb (length queues) 16384 && (leb 1 n && (leb n 4 && acceptsCore core version (length ram)))
+  mayRun n core = eqb (length queues) queueBuffer && (leb 1 n && (leb n 4 && acceptsCore core version (length ram)))
 
   -- turns that ask for something else are none
   unfoldable pub runOf : ℕ → ℕ → ℕ → Core → Turns

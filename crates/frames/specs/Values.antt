@@ -3,6 +3,7 @@ use mathlib.Core.List.{List, [], _∷_, _++_}
 use Prim.Native.Nat.{ℕ, zero, suc, _+_, _%_}
 use lib.Dec.{eqb}
 use lib.IntN.{ℤ, pos}
+use Rattle.sizes.specs.Sizes.{numChannels, ticksPerFrame}
 use Rattle.tone.specs.Mix.{volumeOf, streamVolumeOf}
 use Rattle.version.specs.declared.SguVersion.{SguVersion}
 use Rattle.ticks.specs.Mix.{silence, heard}
@@ -15,7 +16,7 @@ use Rattle.voice.specs.declared.Kind.{Kind}
 use Rattle.voice.specs.declared.Kind.the-variants.{Silent, Oscillator, Sqv4, FifoDac}
 use Rattle.voices.specs.Core.{channelAt}
 use Rattle.voices.specs.declared.Core.{Core}
-use Rattle.frames.specs.Ticking.{Voiced, voiced, target, seen, streamFrom, queueFrom, voiceTicks}
+use Rattle.frames.specs.Ticking.{Voiced, voiced, target, modulator, streamFrom, queueFrom, voiceTicks}
 use Rattle.frames.specs.Turning.{turned, frames}
 
 -- a value on the sides: the volume is an oscillator's or a stream's, and does not apply to a queue; a silent voice gives none
@@ -32,7 +33,7 @@ module _ (version : SguVersion) (ram : List ℕ) (queues : List ℤ) where
   valueAs ch Oscillator s c =
       let at = target version ram queues ch 1 (s .core) (s .sides) c in
       soundValue (c .registers .«waveform_type») (settingOf (c .registers) (c .pcm .«sample_control») version) (c .pcm) (s .core .wavetables) ram ch
-      (targetFor (eqb at ch) (seen version ram queues ch 1 (s .core) (s .sides) c) (c .oscillator)) (c .oscillator)
+      (targetFor (eqb at ch) (modulator version ram queues ch 1 (s .core) (s .sides) c) (c .oscillator)) (c .oscillator)
   valueAs ch Sqv4 s c = streamFrom version ram queues ch 1 (s .core) (s .sides) c .sound .voice .q8
   valueAs ch FifoDac s c = queueFrom version ram queues ch 1 (s .core) (s .sides) c .fifo .held
 
@@ -46,10 +47,10 @@ module _ (version : SguVersion) (ram : List ℕ) (queues : List ℤ) where
 
   unfoldable pub turnedValues : ℕ → ℕ → ℕ → Core → List ℤ
   turnedValues first n zero core = []
-  turnedValues first n (suc k) core = turnedValues first n k core ++ tickValues ((first + k) % 8) n (voiced (turned version ram queues first n k core .core) silence)
+  turnedValues first n (suc k) core = turnedValues first n k core ++ tickValues ((first + k) % numChannels) n (voiced (turned version ram queues first n k core .core) silence)
 
   abbrev pub frameValues : Core → List ℤ
-  frameValues core = turnedValues 0 4 8 core
+  frameValues core = turnedValues 0 ticksPerFrame numChannels core
 
   unfoldable pub framesValues : ℕ → Core → List ℤ
   framesValues zero core = []

@@ -7,10 +7,12 @@ ghost use lib.ListN.{length};
 ghost use lib.Seq.{sets};
 ghost use mir.Syntax.{w16};
 ghost use mir.Val.{SFits};
+ghost use Rattle.sizes.specs.Sizes.{queueBuffer};
 ghost use Rattle.voices.specs.Accepted.{acceptsCore};
 ghost use Rattle.frames.specs.Turning.{turned, mayRun, runOf, afterTurns};
 use crate::Round;
 use crate::Turned;
+use sizes::QUEUE_BUFFER;
 use ticks::Sides;
 use version::SguVersion;
 use voice::Kind;
@@ -27,7 +29,7 @@ fn put_sides(stems: &mut [i16], k: usize, sides: Sides)
 // A stream's cache is stored only where its ticks may have changed it. Where not every tick was served the voice is read anew:
 // ticks that are served then read no more of it than they use.
 fn turns(core: Core, of: Round, n: usize, ram: &[u8], queues: &[i16], stems: &mut [i16]) -> Turned
-    requires { ⌜ (1 ≤ n) × (n ≤ 4) ⌝ ∗ ⌜ length (now queues) ≡ 16384 ⌝ ∗ ⌜ acceptsCore core (of .version) (length (now ram)) ≡ true ⌝ }
+    requires { ⌜ (1 ≤ n) × (n ≤ 4) ⌝ ∗ ⌜ length (now queues) ≡ queueBuffer ⌝ ∗ ⌜ acceptsCore core (of .version) (length (now ram)) ≡ true ⌝ }
     ensures { λ r. ⌜ r ≡ afterTurns (turned (of .version) (now (ram .entry)) (now (queues .entry)) (of .first) n (length (now (stems .entry)) / 2) core) ⌝ }
     ensures { λ _. ⌜ now (stems .exit) ≡ sets (now (stems .entry)) 0 (turned (of .version) (now (ram .entry)) (now (queues .entry)) (of .first) n (length (now (stems .entry)) / 2) core .stems) ⌝ }
     ensures { λ r. ⌜ acceptsCore (r .core) (of .version) (length (now (ram .entry))) ≡ true ⌝ }
@@ -76,7 +78,7 @@ fn turns(core: Core, of: Round, n: usize, ram: &[u8], queues: &[i16], stems: &mu
 fn may_run(core: Core, version: SguVersion, ram: &[u8], queues: &[i16], ticks: usize) -> bool
     ensures { λ r. ⌜ r ≡ mayRun version (now (ram .entry)) (now (queues .entry)) ticks core ⌝ }
 {
-    if queues.len() != 16384 {
+    if queues.len() != QUEUE_BUFFER {
         return false;
     }
     if ticks < 1 {

@@ -16,7 +16,7 @@ use Rattle.log.specs.declared.One.{One}
 use Rattle.log.specs.declared.One.the-variants.{Number, NoNumber}
 use Rattle.log.specs.declared.Two.{Two}
 use Rattle.log.specs.declared.Two.the-variants.{Numbers, NoNumbers}
-use Rattle.log.specs.Lines.{oneOf, oneAt, Within, withByte, twoOf, twoAt, written, writtenRam, readOf, peekOf, clockOf, versionOf, byKind, lineOf}
+use Rattle.log.specs.Lines.{oneOf, oneAt, Within, addressAnd, twoOf, twoAt, asWrite, writtenRam, readOf, peekOf, clockOf, asVersion, byKind, parsedLine}
 
 abbrev FitTwo : Two → Type 0
 FitTwo (Numbers a v) = v < 256
@@ -30,7 +30,7 @@ one-fits text at most = go (naturalAt text at)
     go (Natural n next) = cond-by (Within most) (eqb next (length text)) (cond (leb n most) (Number n) NoNumber) NoNumber (λ e. cond-by (Within most) (leb n most) (Number n) NoNumber (leb-true n most) (λ e. tt)) (λ e. tt)
     go NoNatural = tt
 
-byte-fits : (a : ℕ) (o : One) → Within 255 o → FitTwo (withByte a o)
+byte-fits : (a : ℕ) (o : One) → Within 255 o → FitTwo (addressAnd a o)
 byte-fits a (Number v) h = omega (arith, h)
 byte-fits a NoNumber h = tt
 
@@ -40,8 +40,8 @@ two-fits text at = go (naturalAt text at)
   where
     go : (t : TakenNatural) → FitTwo (twoOf text t)
     go (Natural a next) =
-        cond-by FitTwo (leb a 4294967295) (cond (eqb (getD text next 0) 44) (withByte a (oneAt text (next + 1) 255)) NoNumbers) NoNumbers
-        (λ e. cond-by FitTwo (eqb (getD text next 0) 44) (withByte a (oneAt text (next + 1) 255)) NoNumbers (λ f. byte-fits a (oneAt text (next + 1) 255) (one-fits text (next + 1) 255)) (λ f. tt))
+        cond-by FitTwo (leb a 4294967295) (cond (eqb (getD text next 0) 44) (addressAnd a (oneAt text (next + 1) 255)) NoNumbers) NoNumbers
+        (λ e. cond-by FitTwo (eqb (getD text next 0) 44) (addressAnd a (oneAt text (next + 1) 255)) NoNumbers (λ f. byte-fits a (oneAt text (next + 1) 255) (one-fits text (next + 1) 255)) (λ f. tt))
         (λ e. tt)
     go NoNatural = tt
 
@@ -54,7 +54,7 @@ FitLine (Clock n) = Unit {0}
 FitLine (Version v) = Unit {0}
 FitLine Malformed = Unit {0}
 
-written-fits : (t : Two) → FitTwo t → FitLine (written t)
+written-fits : (t : Two) → FitTwo t → FitLine (asWrite t)
 written-fits (Numbers a v) h = h
 written-fits NoNumbers h = tt
 
@@ -74,12 +74,12 @@ clock-fits : (o : One) → FitLine (clockOf o)
 clock-fits (Number n) = cond-by FitLine (eqb n 0) Malformed (Clock n) (λ e. tt) (λ e. tt)
 clock-fits NoNumber = tt
 
-version-fits : (o : One) → FitLine (versionOf o)
+version-fits : (o : One) → FitLine (asVersion o)
 version-fits (Number v) = tt
 version-fits NoNumber = tt
 
-pub line-fits : (text : List ℕ) → FitLine (lineOf text)
-unfolding lineOf
+pub line-fits : (text : List ℕ) → FitLine (parsedLine text)
+unfolding parsedLine
 line-fits text =
     let k = getD text 0 0 in
     cond-by FitLine (eqb (getD text 1 0) 44) (byKind text k) Malformed

@@ -9,18 +9,18 @@ use mir.Syntax.{w16}
 use mir.Val.{SFits}
 use Rattle.decimal.specs.Written.{decimal, render}
 use Rattle.decimal.proofs.Writing.{width-below, width-most, sample-width}
-use Rattle.log.specs.Texts.{field, pairLine, frameLine, frameLines, readLine, badLine}
+use Rattle.log.specs.Texts.{commaField, pairLine, frameLine, frameLines, readBackLine, badLine}
 
 natural-length : (k n : ℕ) → n < 10 ^ suc k → length (render (pos n)) ≤ suc k
 unfolding render
 natural-length k n h = width-below k n h
 
 pair-length : (word : List ℕ) (a b : ℤ) (m n : ℕ) → length (render a) ≤ m → length (render b) ≤ n → length (pairLine word a b) ≤ length word + m + n + 3
-unfolding pairLine field
+unfolding pairLine commaField
 pair-length word a b m n f g =
     omega (arith, f, g, length-append word ((44 ∷ render a) ++ ((44 ∷ render b) ++ (10 ∷ []))), length-append (44 ∷ render a) ((44 ∷ render b) ++ (10 ∷ [])), length-append (44 ∷ render b) (10 ∷ []))
 
-pub read-length : (kind address byte : ℕ) → address < 2 ^ 32 → byte < 256 → length (readLine kind address byte) ≤ 17
+pub read-length : (kind address byte : ℕ) → address < 2 ^ 32 → byte < 256 → length (readBackLine kind address byte) ≤ 17
 read-length kind address byte a b = omega (arith, pair-length (kind ∷ []) (pos address) (pos byte) 10 3 (natural-length 9 address (omega arith)) (natural-length 2 byte (omega arith)))
 
 pub bad-length : (number : ℕ) → number < 2 ^ 64 → length (badLine number) ≤ 28

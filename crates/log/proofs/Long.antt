@@ -20,7 +20,7 @@ use Rattle.log.specs.declared.One.{One}
 use Rattle.log.specs.declared.One.the-variants.{Number, NoNumber}
 use Rattle.log.specs.declared.Two.{Two}
 use Rattle.log.specs.declared.Two.the-variants.{Numbers, NoNumbers}
-use Rattle.log.specs.Lines.{oneOf, oneAt, withByte, twoOf, twoAt, written, writtenRam, readOf, peekOf, clockOf, versionOf, lineOf}
+use Rattle.log.specs.Lines.{oneOf, oneAt, addressAnd, twoOf, twoAt, asWrite, writtenRam, readOf, peekOf, clockOf, asVersion, parsedLine}
 use Rattle.log.proofs.Commas.{comma-inside}
 
 -- a text is no longer than what stands before a numeral, the numeral and what stands behind it
@@ -61,7 +61,7 @@ short-two text at a v = go (naturalAt text at) refl
     go NoNatural e q = none q
     go (Natural m next) e q = low (leb m 4294967295) refl
       where
-        byte : m ≤ 4294967295 → getD text next 0 ≡ 44 → (o : One) → oneAt text (next + 1) 255 ≡ o → withByte m o ≡ Numbers a v → length text ≤ at + 14
+        byte : m ≤ 4294967295 → getD text next 0 ≡ 44 → (o : One) → oneAt text (next + 1) 255 ≡ o → addressAnd m o ≡ Numbers a v → length text ≤ at + 14
         byte t u NoNumber o r = none r
         byte t u (Number b) o r =
             omega (arith, around text at next m e, width-below 9 m (omega arith), comma-inside text next u, short-one text (next + 1) 255 2 b (omega arith) o)
@@ -87,14 +87,14 @@ module _ (text : List ℕ) (h : 16 < length text) where
   abbrev Is : Line → Type 0
   Is l = l ≡ Malformed
 
-  pub long-line : lineOf text ≡ Malformed
-  unfolding lineOf
+  pub long-line : parsedLine text ≡ Malformed
+  unfolding parsedLine
   long-line =
       cond-by Is (eqb (getD text 1 0) 44) _ _
-      (λ c. cond-by Is (eqb (getD text 0 0) 87) _ _ (λ k. two written refl (twoAt text 2) refl)
+      (λ c. cond-by Is (eqb (getD text 0 0) 87) _ _ (λ k. two asWrite refl (twoAt text 2) refl)
       (λ k. cond-by Is (eqb (getD text 0 0) 77) _ _ (λ k. two writtenRam refl (twoAt text 2) refl)
       (λ k. cond-by Is (eqb (getD text 0 0) 82) _ _ (λ k. one readOf 4294967295 (omega arith) refl (oneAt text 2 4294967295) refl)
       (λ k. cond-by Is (eqb (getD text 0 0) 80) _ _ (λ k. one peekOf 4294967295 (omega arith) refl (oneAt text 2 4294967295) refl)
       (λ k. cond-by Is (eqb (getD text 0 0) 67) _ _ (λ k. one clockOf 1000 (omega arith) refl (oneAt text 2 1000) refl)
-      (λ k. cond-by Is (eqb (getD text 0 0) 86) _ _ (λ k. one versionOf 4 (omega arith) refl (oneAt text 2 4) refl) (λ k. refl)))))))
+      (λ k. cond-by Is (eqb (getD text 0 0) 86) _ _ (λ k. one asVersion 4 (omega arith) refl (oneAt text 2 4) refl) (λ k. refl)))))))
       (λ c. refl)

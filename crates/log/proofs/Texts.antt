@@ -11,21 +11,21 @@ use mir.Val.{toZ}
 use mir.Facts.{toZ-pos}
 use Rattle.decimal.specs.Written.{Put, decimal, render}
 use Rattle.decimal.proofs.Writing.{put-append, put-none}
-use Rattle.log.specs.Texts.{field, pairLine, frameLine, frameLines, badLine, peakOf}
+use Rattle.log.specs.Texts.{commaField, pairLine, frameLine, frameLines, badLine, peakOf}
 
 -- an unsigned number of 32 bits read as a signed one of 64
 pub wide : (n : ℕ) → n < 2 ^ 32 → toZ w64 n ≡ pos n
 wide n h = toZ-pos w64 {n = n} (omega arith)
 
-pub field-put : (l m n : List ℕ) (at c r : ℕ) (z : ℤ) → Put l m at (44 ∷ []) c → Put m n c (render z) r → Put l n at (field z) r
-unfolding field
+pub field-put : (l m n : List ℕ) (at c r : ℕ) (z : ℤ) → Put l m at (44 ∷ []) c → Put m n c (render z) r → Put l n at (commaField z) r
+unfolding commaField
 field-put l m n at c r z p q = put-append l m n at c r (44 ∷ []) (render z) p q
 
-pub pair-put : (l m n o k : List ℕ) (at e f g r : ℕ) (word : List ℕ) (a b : ℤ) → Put l m at word e → Put m n e (field a) f → Put n o f (field b) g → Put o k g (10 ∷ []) r → Put l k at (pairLine word a b) r
+pub pair-put : (l m n o k : List ℕ) (at e f g r : ℕ) (word : List ℕ) (a b : ℤ) → Put l m at word e → Put m n e (commaField a) f → Put n o f (commaField b) g → Put o k g (10 ∷ []) r → Put l k at (pairLine word a b) r
 unfolding pairLine
 pair-put l m n o k at e f g r word a b p q s t =
-    put-append l m k at e r word (field a ++ (field b ++ (10 ∷ []))) p
-    (put-append m n k e f r (field a) (field b ++ (10 ∷ [])) q (put-append n o k f g r (field b) (10 ∷ []) s t))
+    put-append l m k at e r word (commaField a ++ (commaField b ++ (10 ∷ []))) p
+    (put-append m n k e f r (commaField a) (commaField b ++ (10 ∷ [])) q (put-append n o k f g r (commaField b) (10 ∷ []) s t))
 
 pub bad-put : (l m n k : List ℕ) (at e f r number : ℕ) → Put l m at (98 ∷ 97 ∷ 100 ∷ 44 ∷ []) e → Put m n e (decimal number) f → Put n k f (44 ∷ 49 ∷ 55 ∷ 10 ∷ []) r → Put l k at (badLine number) r
 unfolding badLine

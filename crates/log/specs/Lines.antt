@@ -4,6 +4,7 @@ use mathlib.Core.List.{List}
 use Prim.Native.Nat.{ℕ, _+_, _≤_}
 use lib.Dec.{eqb, leb}
 use lib.ListN.{length, getD}
+use Rattle.sizes.specs.Sizes.{lastVersion}
 use Rattle.decimal.specs.declared.TakenNatural.{TakenNatural}
 use Rattle.decimal.specs.declared.TakenNatural.the-variants.{Natural, NoNatural}
 use Rattle.decimal.specs.Read.{naturalAt}
@@ -27,22 +28,22 @@ abbrev pub Within : ℕ → One → Type 0
 Within most (Number n) = n ≤ most
 Within most NoNumber = Unit
 
-abbrev pub withByte : ℕ → One → Two
-withByte a (Number v) = Numbers a v
-withByte a NoNumber = NoNumbers
+abbrev pub addressAnd : ℕ → One → Two
+addressAnd a (Number v) = Numbers a v
+addressAnd a NoNumber = NoNumbers
 
 -- an address, a comma and a byte
 abbrev pub twoOf : List ℕ → TakenNatural → Two
-twoOf text (Natural a next) = cond (leb a 4294967295) (cond (eqb (getD text next 0) 44) (withByte a (oneAt text (next + 1) 255)) NoNumbers) NoNumbers
+twoOf text (Natural a next) = cond (leb a 4294967295) (cond (eqb (getD text next 0) 44) (addressAnd a (oneAt text (next + 1) 255)) NoNumbers) NoNumbers
 twoOf text NoNatural = NoNumbers
 
 unfoldable pub twoAt : List ℕ → ℕ → Two
 twoAt text at = twoOf text (naturalAt text at)
 
 -- ---- lines
-abbrev pub written : Two → Line
-written (Numbers a v) = Write a v
-written NoNumbers = Malformed
+abbrev pub asWrite : Two → Line
+asWrite (Numbers a v) = Write a v
+asWrite NoNumbers = Malformed
 
 abbrev pub writtenRam : Two → Line
 writtenRam (Numbers a v) = WriteRam a v
@@ -61,20 +62,20 @@ abbrev pub clockOf : One → Line
 clockOf (Number n) = cond (eqb n 0) Malformed (Clock n)
 clockOf NoNumber = Malformed
 
-abbrev pub versionOf : One → Line
-versionOf (Number v) = Version v
-versionOf NoNumber = Malformed
+abbrev pub asVersion : One → Line
+asVersion (Number v) = Version v
+asVersion NoNumber = Malformed
 
 -- W 87, M 77, R 82, P 80, C 67, V 86
 abbrev pub byKind : List ℕ → ℕ → Line
 byKind text k =
-    cond (eqb k 87) (written (twoAt text 2))
+    cond (eqb k 87) (asWrite (twoAt text 2))
     (cond (eqb k 77) (writtenRam (twoAt text 2))
     (cond (eqb k 82) (readOf (oneAt text 2 4294967295))
     (cond (eqb k 80) (peekOf (oneAt text 2 4294967295))
     (cond (eqb k 67) (clockOf (oneAt text 2 1000))
-    (cond (eqb k 86) (versionOf (oneAt text 2 4))
+    (cond (eqb k 86) (asVersion (oneAt text 2 lastVersion))
     Malformed)))))
 
-unfoldable pub lineOf : List ℕ → Line
-lineOf text = cond (eqb (getD text 1 0) 44) (byKind text (getD text 0 0)) Malformed
+unfoldable pub parsedLine : List ℕ → Line
+parsedLine text = cond (eqb (getD text 1 0) 44) (byKind text (getD text 0 0)) Malformed

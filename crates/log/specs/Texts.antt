@@ -6,12 +6,12 @@ use lib.ListN.{getD}
 use Rattle.decimal.specs.Written.{decimal, render}
 
 -- a number behind a comma
-unfoldable pub field : ℤ → List ℕ
-field z = 44 ∷ render z
+unfoldable pub commaField : ℤ → List ℕ
+commaField z = 44 ∷ render z
 
 -- two numbers behind a word, and byte 10
 unfoldable pub pairLine : List ℕ → ℤ → ℤ → List ℕ
-pairLine word a b = word ++ (field a ++ (field b ++ (10 ∷ [])))
+pairLine word a b = word ++ (commaField a ++ (commaField b ++ (10 ∷ [])))
 
 -- `F`, left, right
 abbrev pub frameLine : ℤ → ℤ → List ℕ
@@ -23,8 +23,8 @@ frameLines left right zero = []
 frameLines left right (suc n) = frameLines left right n ++ frameLine (getD left n (pos 0)) (getD right n (pos 0))
 
 -- `R` (82) or `P` (80), address, byte
-abbrev pub readLine : ℕ → ℕ → ℕ → List ℕ
-readLine kind address byte = pairLine (kind ∷ []) (pos address) (pos byte)
+abbrev pub readBackLine : ℕ → ℕ → ℕ → List ℕ
+readBackLine kind address byte = pairLine (kind ∷ []) (pos address) (pos byte)
 
 -- `bad`, the line's number, 17
 unfoldable pub badLine : ℕ → List ℕ

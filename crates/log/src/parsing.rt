@@ -1,6 +1,6 @@
 // A line, without its closing byte 10, taken apart.
 ghost use mathlib.Core.Path.{_≡_};
-ghost use Rattle.log.specs.Lines.{Within, oneAt, twoAt, written, writtenRam, readOf, peekOf, clockOf, versionOf, lineOf};
+ghost use Rattle.log.specs.Lines.{Within, oneAt, twoAt, asWrite, writtenRam, readOf, peekOf, clockOf, asVersion, parsedLine};
 use crate::Line;
 use crate::One;
 use crate::Two;
@@ -46,7 +46,7 @@ fn two_numbers(text: &[u8], at: usize) -> Two
 }
 
 fn write_of(two: Two) -> Line
-    ensures { λ r. ⌜ r ≡ written two ⌝ }
+    ensures { λ r. ⌜ r ≡ asWrite two ⌝ }
 {
     match two {
         Two::Numbers(address, value) => Line::Write { address, value },
@@ -96,7 +96,7 @@ fn clock_of(one: One) -> Line
 }
 
 fn version_of(one: One) -> Line
-    ensures { λ r. ⌜ r ≡ versionOf one ⌝ }
+    ensures { λ r. ⌜ r ≡ asVersion one ⌝ }
 {
     match one {
         One::Number(version) => Line::Version(version),
@@ -106,7 +106,7 @@ fn version_of(one: One) -> Line
 
 // What a line asks for.
 pub fn parse(text: &[u8]) -> Line
-    ensures { λ r. ⌜ r ≡ lineOf (now (text .entry)) ⌝ }
+    ensures { λ r. ⌜ r ≡ parsedLine (now (text .entry)) ⌝ }
 {
     if num::byte_at(text, 1) != 44 {
         return Line::Malformed;
@@ -118,7 +118,7 @@ pub fn parse(text: &[u8]) -> Line
         82 => read_of(one_number(text, 2, 0xFFFF_FFFF)),
         80 => peek_of(one_number(text, 2, 0xFFFF_FFFF)),
         67 => clock_of(one_number(text, 2, 1000)),
-        86 => version_of(one_number(text, 2, 4)),
+        86 => version_of(one_number(text, 2, sizes::LAST_VERSION)),
         _ => Line::Malformed,
     }
 }

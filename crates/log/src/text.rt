@@ -3,11 +3,11 @@ ghost use mathlib.Core.Path.{_≡_};
 ghost use Prim.Native.Nat.{_*_, _≤_, min, max};
 ghost use lib.ListN.{length};
 ghost use Rattle.decimal.specs.Written.{Put};
-ghost use Rattle.log.specs.Texts.{field, pairLine, frameLine, frameLines, readLine, badLine, peakLine, peakOf};
+ghost use Rattle.log.specs.Texts.{commaField, pairLine, frameLine, frameLines, readBackLine, badLine, peakLine, peakOf};
 
 // Puts a number behind a comma.
 fn put_field(out: &mut [u8], at: usize, value: i64) -> usize
-    ensures { λ r. ⌜ Put (now (out .entry)) (now (out .exit)) at (field value) r ⌝ }
+    ensures { λ r. ⌜ Put (now (out .entry)) (now (out .exit)) at (commaField value) r ⌝ }
 {
     let comma = decimal::put_byte(out, at, 44);
     decimal::put_number(out, comma, value)
@@ -47,16 +47,16 @@ pub fn put_frames(out: &mut [u8], at: usize, left: &[i16], right: &[i16]) -> usi
 
 // Puts `R`, the address and the byte.
 pub fn put_read(out: &mut [u8], at: usize, address: u32, byte: u8) -> usize
-    ensures { λ r. ⌜ Put (now (out .entry)) (now (out .exit)) at (readLine 82 address byte) r ⌝ }
-    ensures { λ _. ⌜ length (readLine 82 address byte) ≤ 17 ⌝ }
+    ensures { λ r. ⌜ Put (now (out .entry)) (now (out .exit)) at (readBackLine 82 address byte) r ⌝ }
+    ensures { λ _. ⌜ length (readBackLine 82 address byte) ≤ 17 ⌝ }
 {
     put_pair(out, at, b"R", address as i64, byte as i64)
 }
 
 // Puts `P`, the address and the byte.
 pub fn put_peek(out: &mut [u8], at: usize, address: u32, byte: u8) -> usize
-    ensures { λ r. ⌜ Put (now (out .entry)) (now (out .exit)) at (readLine 80 address byte) r ⌝ }
-    ensures { λ _. ⌜ length (readLine 80 address byte) ≤ 17 ⌝ }
+    ensures { λ r. ⌜ Put (now (out .entry)) (now (out .exit)) at (readBackLine 80 address byte) r ⌝ }
+    ensures { λ _. ⌜ length (readBackLine 80 address byte) ≤ 17 ⌝ }
 {
     put_pair(out, at, b"P", address as i64, byte as i64)
 }

@@ -11,7 +11,7 @@ use Rattle.version.specs.Versions.{versionOf}
 use Rattle.version.specs.declared.SguVersion.{SguVersion}
 use Rattle.log.specs.declared.Line.{Line}
 use Rattle.log.specs.declared.Line.the-variants.{Write, WriteRam, Read, Peek, Clock, Version, Malformed}
-use Rattle.log.specs.Texts.{frameLines, readLine, peakOf}
+use Rattle.log.specs.Texts.{frameLines, readBackLine, peakOf}
 use Rattle.s3w2.specs.declared.Called.{Called}
 use Rattle.s3w2.specs.declared.Answer.{Answer}
 use Rattle.s3w2.specs.Fresh.{setVersionCalled}
@@ -20,7 +20,7 @@ use Rattle.s3w2.specs.Registers.{writeRegisterCalled, writeRegisterBuffer, read
 use Rattle.s3w2.specs.Mixing.{clockMixedCalled, clockMixedLeft, clockMixedRight}
 use Rattle.log_player.specs.declared.Player.{Player}
 use Rattle.log_player.specs.Worlds.{World, withChip}
-use Rattle.log_player.specs.Applied.{byteOf, clocked, clockedText, silent, playerAfter, ramAfter, queuesAfter, printed}
+use Rattle.log_player.specs.Applied.{byteAnswered, clockedPlayer, clockedText, silent, playerAfter, ramAfter, queuesAfter, printed}
 
 -- what `apply` promises
 abbrev pub Applied : World → Line → Player → List ℕ → List ℤ → List ℕ → List ℕ → ℕ → ℕ → Type 0
@@ -62,19 +62,19 @@ module _ (w : World) (line : Line) (p : Player) (out : List ℕ) (at same end : 
 
 -- ---- lines that print
 module _ (w : World) (line : Line) (p : Player) (out now : List ℕ) (at end : ℕ) where
-  pub read-line : (a byte same : ℕ) (called : Called) → line ≡ Read a → called ≡ readRegisterCalled (w .player .chip) a → byte ≡ byteOf (called .answer) → Put out now at (readLine 82 a byte) same × (length (readLine 82 a byte) ≤ 17) → p ≡ withChip (w .player) (called .chip) → end ≡ same → Applied w line p (w .ram) (w .queues) out now at end
+  pub read-line : (a byte same : ℕ) (called : Called) → line ≡ Read a → called ≡ readRegisterCalled (w .player .chip) a → byte ≡ byteAnswered (called .answer) → Put out now at (readBackLine 82 a byte) same × (length (readBackLine 82 a byte) ≤ 17) → p ≡ withChip (w .player) (called .chip) → end ≡ same → Applied w line p (w .ram) (w .queues) out now at end
   unfolding playerAfter ramAfter queuesAfter printed
   read-line a byte same called e c b t h r =
       equal w line (Read a) p (w .ram) (w .queues) out now at end e
-      (h ∙ ap (λ (k : Called). withChip (w .player) (k .chip)) c, (refl, (refl, rw (r, ← (b ∙ ap (λ (k : Called). byteOf (k .answer)) c)) (t .0, omega (arith, t .1)))))
+      (h ∙ ap (λ (k : Called). withChip (w .player) (k .chip)) c, (refl, (refl, rw (r, ← (b ∙ ap (λ (k : Called). byteAnswered (k .answer)) c)) (t .0, omega (arith, t .1)))))
 
-  pub peek-line : (a byte same : ℕ) (answer : Answer) → line ≡ Peek a → answer ≡ peekRegisterAnswer (w .player .chip) a → byte ≡ byteOf answer → Put out now at (readLine 80 a byte) same × (length (readLine 80 a byte) ≤ 17) → p ≡ w .player → end ≡ same → Applied w line p (w .ram) (w .queues) out now at end
+  pub peek-line : (a byte same : ℕ) (answer : Answer) → line ≡ Peek a → answer ≡ peekRegisterAnswer (w .player .chip) a → byte ≡ byteAnswered answer → Put out now at (readBackLine 80 a byte) same × (length (readBackLine 80 a byte) ≤ 17) → p ≡ w .player → end ≡ same → Applied w line p (w .ram) (w .queues) out now at end
   unfolding playerAfter ramAfter queuesAfter printed
   peek-line a byte same answer e c b t h r =
       equal w line (Peek a) p (w .ram) (w .queues) out now at end e
-      (h, (refl, (refl, rw (r, ← (b ∙ ap byteOf c)) (t .0, omega (arith, t .1)))))
+      (h, (refl, (refl, rw (r, ← (b ∙ ap byteAnswered c)) (t .0, omega (arith, t .1)))))
 
-  pub clock-line : (n : ℕ) (queues : List ℤ) → line ≡ Clock n → p ≡ clocked (w .player) (w .ram) (w .queues) (silent n) (silent n) → queues ≡ w .queues → Put out now at (clockedText (w .player .chip) (w .ram) (w .queues) (silent n) (silent n)) end × (length (clockedText (w .player .chip) (w .ram) (w .queues) (silent n) (silent n)) ≤ 16000) → Applied w line p (w .ram) queues out now at end
+  pub clock-line : (n : ℕ) (queues : List ℤ) → line ≡ Clock n → p ≡ clockedPlayer (w .player) (w .ram) (w .queues) (silent n) (silent n) → queues ≡ w .queues → Put out now at (clockedText (w .player .chip) (w .ram) (w .queues) (silent n) (silent n)) end × (length (clockedText (w .player .chip) (w .ram) (w .queues) (silent n) (silent n)) ≤ 16000) → Applied w line p (w .ram) queues out now at end
   unfolding playerAfter ramAfter queuesAfter printed
   clock-line n queues e h q t = equal w line (Clock n) p (w .ram) queues out now at end e (h, (refl, (q, t)))
 
@@ -83,8 +83,8 @@ abbrev pub played : Called → ℕ → ℕ → Player
 played called left right = record { chip = called .chip; left = left; right = right }
 
 module _ (p : Player) (ram : List ℕ) (queues left right l r : List ℤ) where
-  pub frames-played : (called : Called) (a b : ℕ) → called ≡ clockMixedCalled (p .chip) ram queues left right → l ≡ clockMixedLeft (p .chip) ram queues left right → r ≡ clockMixedRight (p .chip) ram queues left right → a ≡ peakOf (p .left) l (length l) → b ≡ peakOf (p .right) r (length r) → played called a b ≡ clocked p ram queues left right
-  unfolding clocked
+  pub frames-played : (called : Called) (a b : ℕ) → called ≡ clockMixedCalled (p .chip) ram queues left right → l ≡ clockMixedLeft (p .chip) ram queues left right → r ≡ clockMixedRight (p .chip) ram queues left right → a ≡ peakOf (p .left) l (length l) → b ≡ peakOf (p .right) r (length r) → played called a b ≡ clockedPlayer p ram queues left right
+  unfolding clockedPlayer
   frames-played called a b c x y s t = ap (λ (k : Called). played k a b) c ∙ ap (λ (n : ℕ). played k n b) (s ∙ ap (λ (z : List ℤ). peakOf (p .left) z (length z)) x) ∙ ap (played k _) (t ∙ ap (λ (z : List ℤ). peakOf (p .right) z (length z)) y)
     where
       k : Called

@@ -10,54 +10,54 @@ use lib.ListN.{length, take, drop, getD, set}
 use lib.Seq.{drop-drop, getD-set-same, getD-set-other, getD-take, length-take-le}
 use Rattle.log.specs.declared.Line.{Line}
 use Rattle.log.specs.declared.Line.the-variants.{Write, WriteRam, Read, Peek, Clock, Version, Malformed}
-use Rattle.log.specs.Lines.{lineOf}
+use Rattle.log.specs.Lines.{parsedLine}
 use Rattle.s3w2.specs.Lists.{fed, registersWritten, filled, bytesWritten}
 use Rattle.log_player.specs.declared.Assigned.the-variants.{To}
 use Rattle.log_player.specs.declared.Player.{Player}
 use Rattle.log_player.specs.declared.Next.the-variants.{Line as Played}
 use Rattle.log_player.specs.Worlds.{World, world, withChip}
-use Rattle.log_player.specs.Applied.{after, playerAfter, ramAfter, queuesAfter, printed}
+use Rattle.log_player.specs.Applied.{afterLine, playerAfter, ramAfter, queuesAfter, printed}
 use Rattle.log_player.specs.Logs.{malformed, restText}
 use Rattle.log_player.specs.Steps.{firstLine, nextOf}
-use Rattle.log_player.specs.Bursts.{writing, assignedBy, wrote, Collects, Bursts}
+use Rattle.log_player.specs.Bursts.{writing, assignedBy, allWritten, Collects, Bursts}
 use Rattle.log_player.proofs.Stops.{next-line}
 use Rattle.log_player.proofs.Whole.{step-line}
 
 -- only the first n addresses and values are looked at
 pub wrote-same :
     (ram : Bool) (n : ℕ) (xs xs2 ys ys2 : List ℕ) (w : World) → ((i : ℕ) → i < n → getD xs i 0 ≡ getD xs2 i 0) → ((i : ℕ) → i < n → getD ys i 0 ≡ getD ys2 i 0) →
-    wrote ram n xs ys w ≡ wrote ram n xs2 ys2 w
-unfolding wrote
+    allWritten ram n xs ys w ≡ allWritten ram n xs2 ys2 w
+unfolding allWritten
 wrote-same ram zero xs xs2 ys ys2 w e f = refl
 wrote-same ram (suc n) xs xs2 ys ys2 w e f =
-    ap (λ (x : World). after x (writing ram (getD xs n 0) (getD ys n 0))) (wrote-same ram n xs xs2 ys ys2 w (λ i h. e i (omega arith)) (λ i h. f i (omega arith)))
-    ∙ (λ i. after (wrote ram n xs2 ys2 w) (writing ram (e n (omega arith) i) (f n (omega arith) i)))
+    ap (λ (x : World). afterLine x (writing ram (getD xs n 0) (getD ys n 0))) (wrote-same ram n xs xs2 ys ys2 w (λ i h. e i (omega arith)) (λ i h. f i (omega arith)))
+    ∙ (λ i. afterLine (allWritten ram n xs2 ys2 w) (writing ram (e n (omega arith) i) (f n (omega arith) i)))
 
 -- one more address and value
 wrote-more :
     (ram : Bool) (n a v : ℕ) (xs ys : List ℕ) (w : World) → n < length xs → n < length ys →
-    wrote ram (n + 1) (set xs n a) (set ys n v) w ≡ after (wrote ram n xs ys w) (writing ram a v)
-unfolding wrote
+    allWritten ram (n + 1) (set xs n a) (set ys n v) w ≡ afterLine (allWritten ram n xs ys w) (writing ram a v)
+unfolding allWritten
 wrote-more ram n a v xs ys w h k =
     rw (add-one n)
-    ((λ i. after (wrote ram n (set xs n a) (set ys n v) w) (writing ram (getD-set-same xs n a 0 h i) (getD-set-same ys n v 0 k i)))
-    ∙ ap (λ (x : World). after x (writing ram a v))
+    ((λ i. afterLine (allWritten ram n (set xs n a) (set ys n v) w) (writing ram (getD-set-same xs n a 0 h i) (getD-set-same ys n v 0 k i)))
+    ∙ ap (λ (x : World). afterLine x (writing ram a v))
     (wrote-same ram n (set xs n a) xs (set ys n v) ys w (λ i q. getD-set-other xs n i a 0 (λ e. absurd (omega arith))) (λ i q. getD-set-other ys n i v 0 (λ e. absurd (omega arith)))))
 
 -- ---- the chip's calls on lists are these lines
 pub wrote-registers :
     (n : ℕ) (xs ys : List ℕ) (p : Player) (ram : List ℕ) (q : List ℤ) →
-    wrote false n xs ys (world p ram q) ≡ world (withChip p (registersWritten n xs ys (fed (p .chip) q) .chip)) ram (registersWritten n xs ys (fed (p .chip) q) .queues)
-unfolding wrote registersWritten playerAfter ramAfter queuesAfter
+    allWritten false n xs ys (world p ram q) ≡ world (withChip p (registersWritten n xs ys (fed (p .chip) q) .chip)) ram (registersWritten n xs ys (fed (p .chip) q) .queues)
+unfolding allWritten registersWritten playerAfter ramAfter queuesAfter
 wrote-registers zero xs ys p ram q = refl
-wrote-registers (suc n) xs ys p ram q = ap (λ (w : World). after w (Write (getD xs n 0) (getD ys n 0))) (wrote-registers n xs ys p ram q)
+wrote-registers (suc n) xs ys p ram q = ap (λ (w : World). afterLine w (Write (getD xs n 0) (getD ys n 0))) (wrote-registers n xs ys p ram q)
 
 pub wrote-bytes :
     (n : ℕ) (xs ys : List ℕ) (p : Player) (ram : List ℕ) (q : List ℤ) →
-    wrote true n xs ys (world p ram q) ≡ world (withChip p (bytesWritten n xs ys (filled (p .chip) ram) .chip)) (bytesWritten n xs ys (filled (p .chip) ram) .ram) q
-unfolding wrote bytesWritten playerAfter ramAfter queuesAfter
+    allWritten true n xs ys (world p ram q) ≡ world (withChip p (bytesWritten n xs ys (filled (p .chip) ram) .chip)) (bytesWritten n xs ys (filled (p .chip) ram) .ram) q
+unfolding allWritten bytesWritten playerAfter ramAfter queuesAfter
 wrote-bytes zero xs ys p ram q = refl
-wrote-bytes (suc n) xs ys p ram q = ap (λ (w : World). after w (WriteRam (getD xs n 0) (getD ys n 0))) (wrote-bytes n xs ys p ram q)
+wrote-bytes (suc n) xs ys p ram q = ap (λ (w : World). afterLine w (WriteRam (getD xs n 0) (getD ys n 0))) (wrote-bytes n xs ys p ram q)
 
 -- ---- a line that writes
 pub to-bytes : (ram : Bool) (line : Line) (a v : ℕ) → line ≡ WriteRam a v → ram ≡ true → To a v ≡ assignedBy ram line
@@ -88,7 +88,7 @@ unprinted false a v w = refl
 
 -- ---- lines one after the other
 pub collects-none : (ram : Bool) (input xs ys : List ℕ) → Collects ram input input 0 xs ys
-unfolding wrote
+unfolding allWritten
 collects-none ram input xs ys = record {
   left = λ w number more.
       let k : number ≡ number + 0 = omega arith in
@@ -98,7 +98,7 @@ collects-none ram input xs ys = record {
 module _ (ram : Bool) (start input : List ℕ) (place stop n a v : ℕ) (xs ys : List ℕ) where
   pub collects-more :
       Collects ram start (drop place input) n xs ys → stop ≡ place + length (firstLine (drop place input)) → stop < length input →
-      lineOf (firstLine (drop place input)) ≡ writing ram a v → n < length xs → n < length ys →
+      parsedLine (firstLine (drop place input)) ≡ writing ram a v → n < length xs → n < length ys →
       Collects ram start (drop (stop + 1) input) (n + 1) (set xs n a) (set ys n v)
   collects-more c s h line ha hv = record { left = λ w number more. c .left w number more ∙ one w number more }
     where
@@ -113,26 +113,26 @@ module _ (ram : Bool) (start input : List ℕ) (place stop n a v : ℕ) (xs ys :
           let k : place + suc (length (firstLine rest)) ≡ stop + 1 = omega arith in
           drop-drop (suc (length (firstLine rest))) place input ∙ ap (λ (k : ℕ). drop k input) k
 
-      one : (w : World) (number : ℕ) (more : List ℕ) → restText (wrote ram n xs ys w) (number + n) [] (rest ++ more) ≡ restText (wrote ram (n + 1) (set xs n a) (set ys n v) w) (number + (n + 1)) [] (drop (stop + 1) input ++ more)
+      one : (w : World) (number : ℕ) (more : List ℕ) → restText (allWritten ram n xs ys w) (number + n) [] (rest ++ more) ≡ restText (allWritten ram (n + 1) (set xs n a) (set ys n v) w) (number + (n + 1)) [] (drop (stop + 1) input ++ more)
       one w number more =
-          let b = wrote ram n xs ys w in
+          let b = allWritten ram n xs ys w in
           let k : suc (number + n) ≡ number + (n + 1) = omega arith in
           step-line b (number + n) rest place (stop + 1) more next
-          ∙ ap (λ (t : Line). printed b t ++ restText (after b t) (suc (number + n)) [] (drop (suc (length (firstLine rest))) rest ++ more)) line
-          ∙ ap (λ (t : List ℕ). t ++ restText (after b (writing ram a v)) (suc (number + n)) [] (drop (suc (length (firstLine rest))) rest ++ more)) (unprinted ram a v b)
+          ∙ ap (λ (t : Line). printed b t ++ restText (afterLine b t) (suc (number + n)) [] (drop (suc (length (firstLine rest))) rest ++ more)) line
+          ∙ ap (λ (t : List ℕ). t ++ restText (afterLine b (writing ram a v)) (suc (number + n)) [] (drop (suc (length (firstLine rest))) rest ++ more)) (unprinted ram a v b)
           ∙ (λ i. restText (sym (wrote-more ram n a v xs ys w ha hv) i) (k i) [] (there i ++ more))
 
 -- ---- the lines that were collected, written
 module _ (ram : Bool) (w next : World) (number n : ℕ) (input behind xs ys : List ℕ) where
   pub bursts :
-      Collects ram input behind n xs ys → n ≤ length xs → n ≤ length ys → next ≡ wrote ram (min (length (take n xs)) (length (take n ys))) (take n xs) (take n ys) w →
+      Collects ram input behind n xs ys → n ≤ length xs → n ≤ length ys → next ≡ allWritten ram (min (length (take n xs)) (length (take n ys))) (take n xs) (take n ys) w →
       Bursts w number input next (number + n) behind
   bursts c h k e = record { left = λ more. c .left w number more ∙ ap (λ (u : World). restText u (number + n) [] (behind ++ more)) (sym (e ∙ all)) }
     where
       long : min (length (take n xs)) (length (take n ys)) ≡ n
       long = omega (arith, length-take-le n xs h, length-take-le n ys k)
 
-      all : wrote ram (min (length (take n xs)) (length (take n ys))) (take n xs) (take n ys) w ≡ wrote ram n xs ys w
+      all : allWritten ram (min (length (take n xs)) (length (take n ys))) (take n xs) (take n ys) w ≡ allWritten ram n xs ys w
       all =
-          ap (λ (m : ℕ). wrote ram m (take n xs) (take n ys) w) long
+          ap (λ (m : ℕ). allWritten ram m (take n xs) (take n ys) w) long
           ∙ wrote-same ram n (take n xs) xs (take n ys) ys w (λ i q. getD-take n xs i 0 q) (λ i q. getD-take n ys i 0 q)

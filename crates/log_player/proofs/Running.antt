@@ -14,14 +14,14 @@ use borrow.Author.Tests.{eq-eqb, ne-eqb, le-leb, lt-leb, leb-true, leb-false}
 use Rattle.num.proofs.Choice.{never}
 use denote.Enum.Declared.{tagOf}
 use Rattle.decimal.proofs.Writing.{put-append, put-none}
-use Rattle.log.specs.Lines.{lineOf}
+use Rattle.log.specs.Lines.{parsedLine}
 use Rattle.log_player.proofs.Next.{the-type}
 use Rattle.log_player.specs.declared.Player.{Player}
 use Rattle.log_player.specs.declared.Ran.{Ran}
 use Rattle.log_player.specs.declared.Next.{Next}
 use Rattle.log_player.specs.declared.Next.the-variants.{Line, Rest, Bad}
 use Rattle.log_player.specs.Worlds.{World, world}
-use Rattle.log_player.specs.Applied.{after, printed}
+use Rattle.log_player.specs.Applied.{afterLine, printed}
 use Rattle.log_player.specs.Logs.{malformed, restText}
 use Rattle.log_player.specs.Steps.{firstLine, nextOf, stepText}
 use Rattle.log_player.specs.Runs.{hasRoom, Runs}
@@ -35,9 +35,9 @@ runs-none w number rest place out = record { text = []; put = put-none out 0 0 (
 -- the place behind a line that is played
 behind-line : (rest : List ℕ) (at place : ℕ) → nextOf rest at ≡ Line place → place ≡ at + suc (length (firstLine rest))
 unfolding nextOf
-behind-line rest at place e = go (eqb (length (firstLine rest)) (length rest)) refl (malformed (lineOf (firstLine rest))) refl (leb (length rest) 16) refl
+behind-line rest at place e = go (eqb (length (firstLine rest)) (length rest)) refl (malformed (parsedLine (firstLine rest))) refl (leb (length rest) 16) refl
   where
-    go : (a : Bool) → eqb (length (firstLine rest)) (length rest) ≡ a → (b : Bool) → malformed (lineOf (firstLine rest)) ≡ b → (c : Bool) → leb (length rest) 16 ≡ c → place ≡ at + suc (length (firstLine rest))
+    go : (a : Bool) → eqb (length (firstLine rest)) (length rest) ≡ a → (b : Bool) → malformed (parsedLine (firstLine rest)) ≡ b → (c : Bool) → leb (length rest) 16 ≡ c → place ≡ at + suc (length (firstLine rest))
     go true t b m true k = let z : Rest ≡ Line place = rw (t, k) at e in (cc)
     go true t b m false k = let z : Bad ≡ Line place = rw (t, k) at e in (cc)
     go false t true m c k = let z : Bad ≡ Line place = rw (t, m) at e in (cc)
@@ -58,22 +58,22 @@ module _ (w a : World) (number line place end e : ℕ) (start input : List ℕ) 
   pub runs-line : (behind : ℕ) → Runs w number start a line (Line place) rest out mid end → nextOf rest place ≡ Line behind → Steps a line (Line behind) (firstLine rest) (Line behind) p ram queues mid now end e → Runs w number start (world p ram queues) (line + 1) (Line behind) (drop behind input) out now e
   runs-line behind r n s =
       record {
-        text = r .text ++ printed a (lineOf (firstLine rest));
-        put = put-append out mid now 0 end e (r .text) (printed a (lineOf (firstLine rest))) (r .put) (s .1 .1 .1 .1 .0);
-        whole = all-put (r .text) (printed a (lineOf (firstLine rest))) (r .whole) (s .1 .1 .1 .1 .0 .0) (s .1 .1 .1 .1 .1) room;
+        text = r .text ++ printed a (parsedLine (firstLine rest));
+        put = put-append out mid now 0 end e (r .text) (printed a (parsedLine (firstLine rest))) (r .put) (s .1 .1 .1 .1 .0);
+        whole = all-put (r .text) (printed a (parsedLine (firstLine rest))) (r .whole) (s .1 .1 .1 .1 .0 .0) (s .1 .1 .1 .1 .1) room;
         left = λ more.
             r .left more
-            ∙ ap (λ (t : List ℕ). r .text ++ t) (step-line a line rest place behind more n ∙ ap (λ (t : List ℕ). printed a (lineOf (firstLine rest)) ++ t) (goes more))
-            ∙ sym (append-assoc (r .text) (printed a (lineOf (firstLine rest))) (restText (world p ram queues) (line + 1) [] (drop behind input ++ more)));
+            ∙ ap (λ (t : List ℕ). r .text ++ t) (step-line a line rest place behind more n ∙ ap (λ (t : List ℕ). printed a (parsedLine (firstLine rest)) ++ t) (goes more))
+            ∙ sym (append-assoc (r .text) (printed a (parsedLine (firstLine rest))) (restText (world p ram queues) (line + 1) [] (drop behind input ++ more)));
       }
     where
-      same : after a (lineOf (firstLine rest)) ≡ world p ram queues
+      same : afterLine a (parsedLine (firstLine rest)) ≡ world p ram queues
       same = sym (λ i. world (s .1 .0 i) (s .1 .1 .0 i) (s .1 .1 .1 .0 i))
 
       there : drop (suc (length (firstLine rest))) rest ≡ drop behind input
       there = drop-drop (suc (length (firstLine rest))) place input ∙ ap (λ (k : ℕ). drop k input) (sym (behind-line rest place behind n))
 
-      goes : (more : List ℕ) → restText (after a (lineOf (firstLine rest))) (suc line) [] (drop (suc (length (firstLine rest))) rest ++ more) ≡ restText (world p ram queues) (line + 1) [] (drop behind input ++ more)
+      goes : (more : List ℕ) → restText (afterLine a (parsedLine (firstLine rest))) (suc line) [] (drop (suc (length (firstLine rest))) rest ++ more) ≡ restText (world p ram queues) (line + 1) [] (drop behind input ++ more)
       goes more = rw (add-one line, there) (ap (λ (v : World). restText v (suc line) [] (drop behind input ++ more)) same)
 
   pub runs-rest : Runs w number start a line (Line place) rest out mid end → Steps a line Rest (firstLine rest) Rest p ram queues mid now end e → Runs w number start (world p ram queues) line Rest rest out now e

@@ -16,7 +16,7 @@ use Rattle.decimal.specs.Written.{Put}
 use Rattle.log.proofs.Line.{the-type}
 use Rattle.log.specs.declared.Line.{Line}
 use Rattle.log.specs.declared.Line.the-variants.{Write, WriteRam, Read, Peek, Clock, Version, Malformed}
-use Rattle.log.specs.Lines.{lineOf}
+use Rattle.log.specs.Lines.{parsedLine}
 use Rattle.log_player.specs.declared.Player.{Player}
 use Rattle.log_player.specs.declared.Next.{Next}
 use Rattle.log_player.specs.declared.Next.the-variants.{Line as Played, Rest, Bad}
@@ -76,11 +76,11 @@ module _ (l : List ℕ) (from stop : ℕ) (s : stop ≡ from + length (firstLine
   within : from < length l → (stop ≡ length l → ⊥) → (length (firstLine (drop from l)) ≡ length (drop from l) → ⊥)
   within h n e = n (omega (arith, length-drop from l))
 
-  pub next-bad : (line : Line) → from < length l → (stop ≡ length l → ⊥) → line ≡ lineOf (firstLine (drop from l)) → malformed line ≡ true → nextOf (drop from l) from ≡ Bad
+  pub next-bad : (line : Line) → from < length l → (stop ≡ length l → ⊥) → line ≡ parsedLine (firstLine (drop from l)) → malformed line ≡ true → nextOf (drop from l) from ≡ Bad
   unfolding nextOf
   next-bad line h n e m = rw (ne-eqb (length (firstLine (drop from l))) (length (drop from l)) (within h n), ← e, m)
 
-  pub next-line : (line : Line) → from < length l → (stop ≡ length l → ⊥) → line ≡ lineOf (firstLine (drop from l)) → malformed line ≡ false → nextOf (drop from l) from ≡ Played (stop + 1)
+  pub next-line : (line : Line) → from < length l → (stop ≡ length l → ⊥) → line ≡ parsedLine (firstLine (drop from l)) → malformed line ≡ false → nextOf (drop from l) from ≡ Played (stop + 1)
   unfolding nextOf
   next-line line h n e m = rw (ne-eqb (length (firstLine (drop from l))) (length (drop from l)) (within h n), ← e, m, ← s)
 

@@ -11,12 +11,12 @@ use borrow.Author.Tests.{eqb-true, eqb-false, leb-false, ne-eqb}
 use Rattle.num.proofs.Choice.{cond-by}
 use Rattle.s3w2.specs.Answers.{isDone}
 use Rattle.s3w2.specs.Fresh.{madeRefusal, madeRam}
-use Rattle.log.specs.Lines.{lineOf}
+use Rattle.log.specs.Lines.{parsedLine}
 use Rattle.log.specs.Texts.{badLine}
 use Rattle.log.proofs.Long.{long-line}
 use Rattle.log_player.specs.declared.Next.the-variants.{Line as Played, Rest, Bad}
 use Rattle.log_player.specs.Worlds.{World}
-use Rattle.log_player.specs.Applied.{after, printed}
+use Rattle.log_player.specs.Applied.{afterLine, printed}
 use Rattle.log_player.specs.Logs.{malformed, endText, restText}
 use Rattle.log_player.specs.Steps.{firstLine, nextOf}
 use Rattle.log_player.proofs.Stops.{first-short}
@@ -24,7 +24,7 @@ use Rattle.log_player.proofs.Stops.{first-short}
 -- what a line and those behind it print
 abbrev pub lineText : World → ℕ → List ℕ → List ℕ → List ℕ
 lineText w number line rest =
-    cond (malformed (lineOf line)) (badLine number) (printed w (lineOf line) ++ restText (after w (lineOf line)) (suc number) [] rest)
+    cond (malformed (parsedLine line)) (badLine number) (printed w (parsedLine line) ++ restText (afterLine w (parsedLine line)) (suc number) [] rest)
 
 -- ---- an input that begins with a whole line
 whole : (l : List ℕ) (w : World) (number : ℕ) (pre : List ℕ) → length (firstLine l) < length l → restText w number pre l ≡ lineText w number (pre ++ firstLine l) (drop (suc (length (firstLine l))) l)
@@ -92,7 +92,7 @@ no-line (c ∷ cs) w number pre h = go (eqb c 10) refl (no-line cs w number (pre
 -- ---- THE STEPS: whatever follows what was read
 module _ (w : World) (number : ℕ) (rest : List ℕ) (from : ℕ) where
   -- a line that is played prints its part, and the log goes on behind it
-  pub step-line : (place : ℕ) (more : List ℕ) → nextOf rest from ≡ Played place → restText w number [] (rest ++ more) ≡ printed w (lineOf (firstLine rest)) ++ restText (after w (lineOf (firstLine rest))) (suc number) [] (drop (suc (length (firstLine rest))) rest ++ more)
+  pub step-line : (place : ℕ) (more : List ℕ) → nextOf rest from ≡ Played place → restText w number [] (rest ++ more) ≡ printed w (parsedLine (firstLine rest)) ++ restText (afterLine w (parsedLine (firstLine rest))) (suc number) [] (drop (suc (length (firstLine rest))) rest ++ more)
   unfolding nextOf
   step-line place more e = go (eqb (length (firstLine rest)) (length rest)) refl
     where
@@ -100,15 +100,15 @@ module _ (w : World) (number : ℕ) (rest : List ℕ) (from : ℕ) where
       far q true t = let z : Rest ≡ Played place = rw t at q in let y : _≡_ {A = ℕ} 0 1 = cc in omega arith
       far q false t = let z : Bad ≡ Played place = rw t at q in let y : _≡_ {A = ℕ} 0 1 = cc in omega arith
 
-      played : length (firstLine rest) < length rest → (b : Bool) → malformed (lineOf (firstLine rest)) ≡ b → eqb (length (firstLine rest)) (length rest) ≡ false → restText w number [] (rest ++ more) ≡ printed w (lineOf (firstLine rest)) ++ restText (after w (lineOf (firstLine rest))) (suc number) [] (drop (suc (length (firstLine rest))) rest ++ more)
+      played : length (firstLine rest) < length rest → (b : Bool) → malformed (parsedLine (firstLine rest)) ≡ b → eqb (length (firstLine rest)) (length rest) ≡ false → restText w number [] (rest ++ more) ≡ printed w (parsedLine (firstLine rest)) ++ restText (afterLine w (parsedLine (firstLine rest))) (suc number) [] (drop (suc (length (firstLine rest))) rest ++ more)
       played h true m t = absurd (let z : Bad ≡ Played place = rw (t, m) at e in let y : _≡_ {A = ℕ} 0 1 = cc in omega arith)
       played h false m t =
           whole (rest ++ more) w number [] (rw (first-kept rest more h, length-append rest more) (omega arith))
           ∙ rw (first-kept rest more h, m, drop-append-le (suc (length (firstLine rest))) rest more (omega arith))
 
-      go : (b : Bool) → eqb (length (firstLine rest)) (length rest) ≡ b → restText w number [] (rest ++ more) ≡ printed w (lineOf (firstLine rest)) ++ restText (after w (lineOf (firstLine rest))) (suc number) [] (drop (suc (length (firstLine rest))) rest ++ more)
+      go : (b : Bool) → eqb (length (firstLine rest)) (length rest) ≡ b → restText w number [] (rest ++ more) ≡ printed w (parsedLine (firstLine rest)) ++ restText (afterLine w (parsedLine (firstLine rest))) (suc number) [] (drop (suc (length (firstLine rest))) rest ++ more)
       go true t = absurd (far (rw t at e) (leb (length rest) 16) refl)
-      go false t = played (less (eqb-false (length (firstLine rest)) (length rest) t) (first-short rest)) (malformed (lineOf (firstLine rest))) refl t
+      go false t = played (less (eqb-false (length (firstLine rest)) (length rest) t) (first-short rest)) (malformed (parsedLine (firstLine rest))) refl t
         where
           less : {a b : ℕ} → (a ≡ b → ⊥) → a ≤ b → a < b
           less n h = omega arith
@@ -122,13 +122,13 @@ module _ (w : World) (number : ℕ) (rest : List ℕ) (from : ℕ) where
       open-line h true s t = absurd (let z : Rest ≡ Bad = rw (t, s) at e in let y : _≡_ {A = ℕ} 0 1 = cc in omega arith)
       open-line h false s t = too-long (rest ++ more) w number [] (omega (arith, first-longer rest more h, leb-false (length rest) 16 s))
 
-      closed : length (firstLine rest) < length rest → (b : Bool) → malformed (lineOf (firstLine rest)) ≡ b → eqb (length (firstLine rest)) (length rest) ≡ false → restText w number [] (rest ++ more) ≡ badLine number
+      closed : length (firstLine rest) < length rest → (b : Bool) → malformed (parsedLine (firstLine rest)) ≡ b → eqb (length (firstLine rest)) (length rest) ≡ false → restText w number [] (rest ++ more) ≡ badLine number
       closed h true m t = whole (rest ++ more) w number [] (rw (first-kept rest more h, length-append rest more) (omega arith)) ∙ rw (first-kept rest more h, m)
       closed h false m t = absurd (let z : Played (from + length (firstLine rest) + 1) ≡ Bad = rw (t, m) at e in let y : _≡_ {A = ℕ} 0 1 = cc in omega arith)
 
       go : (b : Bool) → eqb (length (firstLine rest)) (length rest) ≡ b → restText w number [] (rest ++ more) ≡ badLine number
       go true t = open-line (eqb-true (length (firstLine rest)) (length rest) t) (leb (length rest) 16) refl t
-      go false t = closed (less (eqb-false (length (firstLine rest)) (length rest) t) (first-short rest)) (malformed (lineOf (firstLine rest))) refl t
+      go false t = closed (less (eqb-false (length (firstLine rest)) (length rest) t) (first-short rest)) (malformed (parsedLine (firstLine rest))) refl t
         where
           less : {a b : ℕ} → (a ≡ b → ⊥) → a ≤ b → a < b
           less n h = omega arith
@@ -142,9 +142,9 @@ module _ (w : World) (number : ℕ) (rest : List ℕ) (from : ℕ) where
       go true t =
           let k : 0 + length rest ≡ length rest = omega arith in
           no-line rest w number [] (eqb-true (length (firstLine rest)) (length rest) t) ∙ ap (λ (n : ℕ). endText (w .player) number n) k
-      go false t = tell (malformed (lineOf (firstLine rest))) refl
+      go false t = tell (malformed (parsedLine (firstLine rest))) refl
         where
-          tell : (b : Bool) → malformed (lineOf (firstLine rest)) ≡ b → restText w number [] rest ≡ endText (w .player) number (length rest)
+          tell : (b : Bool) → malformed (parsedLine (firstLine rest)) ≡ b → restText w number [] rest ≡ endText (w .player) number (length rest)
           tell true m = absurd (let z : Bad ≡ Rest = rw (t, m) at e in let y : _≡_ {A = ℕ} 0 1 = cc in omega arith)
           tell false m = absurd (let z : Played (from + length (firstLine rest) + 1) ≡ Rest = rw (t, m) at e in let y : _≡_ {A = ℕ} 0 1 = cc in omega arith)
 

@@ -6,7 +6,7 @@ use lib.ListN.{length, replicate}
 use Rattle.version.specs.Versions.{versionOf}
 use Rattle.log.specs.declared.Line.{Line}
 use Rattle.log.specs.declared.Line.the-variants.{Write, WriteRam, Read, Peek, Clock, Version, Malformed}
-use Rattle.log.specs.Texts.{frameLines, readLine, peakOf}
+use Rattle.log.specs.Texts.{frameLines, readBackLine, peakOf}
 use Rattle.s3w2.specs.declared.Chip.{Chip}
 use Rattle.s3w2.specs.declared.Answer.{Answer}
 use Rattle.s3w2.specs.declared.Answer.the-variants.{Done, Byte, Sample, Count, Flag, RamLength, QueueBuffer, NotAccepted, StemBuffer}
@@ -18,16 +18,16 @@ use Rattle.log_player.specs.declared.Player.{Player}
 use Rattle.log_player.specs.Worlds.{World, world, withChip}
 
 -- the byte that a call answers; 0 where it was turned away
-abbrev pub byteOf : Answer → ℕ
-byteOf (Byte x) = x
-byteOf Done = 0
-byteOf (Sample x) = 0
-byteOf (Count x) = 0
-byteOf (Flag x) = 0
-byteOf RamLength = 0
-byteOf QueueBuffer = 0
-byteOf NotAccepted = 0
-byteOf StemBuffer = 0
+abbrev pub byteAnswered : Answer → ℕ
+byteAnswered (Byte x) = x
+byteAnswered Done = 0
+byteAnswered (Sample x) = 0
+byteAnswered (Count x) = 0
+byteAnswered (Flag x) = 0
+byteAnswered RamLength = 0
+byteAnswered QueueBuffer = 0
+byteAnswered NotAccepted = 0
+byteAnswered StemBuffer = 0
 
 -- ---- frames mixed into two sides
 module _ (chip : Chip) (ram : List ℕ) (queues left right : List ℤ) where
@@ -42,8 +42,8 @@ module _ (chip : Chip) (ram : List ℕ) (queues left right : List ℤ) where
   clockedText = frameLines leftSide rightSide (min (length leftSide) (length rightSide))
 
 -- the player after them
-unfoldable pub clocked : Player → List ℕ → List ℤ → List ℤ → List ℤ → Player
-clocked p ram queues left right = record {
+unfoldable pub clockedPlayer : Player → List ℕ → List ℤ → List ℤ → List ℤ → Player
+clockedPlayer p ram queues left right = record {
   chip = clockMixedCalled (p .chip) ram queues left right .chip;
   left = peakOf (p .left) (leftSide (p .chip) ram queues left right) (length (leftSide (p .chip) ram queues left right));
   right = peakOf (p .right) (rightSide (p .chip) ram queues left right) (length (rightSide (p .chip) ram queues left right));
@@ -59,7 +59,7 @@ playerAfter w (Write a v) = withChip (w .player) (writeRegisterCalled (w .player
 playerAfter w (WriteRam a v) = withChip (w .player) (writePcmRamCalled (w .player .chip) (length (w .ram)) a .chip)
 playerAfter w (Read a) = withChip (w .player) (readRegisterCalled (w .player .chip) a .chip)
 playerAfter w (Peek a) = w .player
-playerAfter w (Clock n) = clocked (w .player) (w .ram) (w .queues) (silent n) (silent n)
+playerAfter w (Clock n) = clockedPlayer (w .player) (w .ram) (w .queues) (silent n) (silent n)
 playerAfter w (Version v) = withChip (w .player) (setVersionCalled (w .player .chip) (versionOf v) .chip)
 playerAfter w Malformed = w .player
 
@@ -81,15 +81,15 @@ queuesAfter w (Clock n) = w .queues
 queuesAfter w (Version v) = w .queues
 queuesAfter w Malformed = w .queues
 
-abbrev pub after : World → Line → World
-after w line = world (playerAfter w line) (ramAfter w line) (queuesAfter w line)
+abbrev pub afterLine : World → Line → World
+afterLine w line = world (playerAfter w line) (ramAfter w line) (queuesAfter w line)
 
 -- what it prints: `R` is 82, `P` is 80
 unfoldable pub printed : World → Line → List ℕ
 printed w (Write a v) = []
 printed w (WriteRam a v) = []
-printed w (Read a) = readLine 82 a (byteOf (readRegisterCalled (w .player .chip) a .answer))
-printed w (Peek a) = readLine 80 a (byteOf (peekRegisterAnswer (w .player .chip) a))
+printed w (Read a) = readBackLine 82 a (byteAnswered (readRegisterCalled (w .player .chip) a .answer))
+printed w (Peek a) = readBackLine 80 a (byteAnswered (peekRegisterAnswer (w .player .chip) a))
 printed w (Clock n) = clockedText (w .player .chip) (w .ram) (w .queues) (silent n) (silent n)
 printed w (Version v) = []
 printed w Malformed = []

@@ -10,7 +10,7 @@ use Rattle.log.specs.declared.Line.the-variants.{Write, WriteRam, Read, Peek, C
 use Rattle.log_player.specs.declared.Assigned.{Assigned}
 use Rattle.log_player.specs.declared.Assigned.the-variants.{To, Nothing}
 use Rattle.log_player.specs.Worlds.{World}
-use Rattle.log_player.specs.Applied.{after}
+use Rattle.log_player.specs.Applied.{afterLine}
 use Rattle.log_player.specs.Logs.{restText}
 
 -- whether a line begins as one that writes: `W` is 87, `M` is 77
@@ -33,13 +33,13 @@ assignedBy ram (Version v) = Nothing
 assignedBy ram Malformed = Nothing
 
 -- the world after the first n of such lines, by their addresses and values
-unfoldable pub wrote : Bool → ℕ → List ℕ → List ℕ → World → World
-wrote ram zero addresses values w = w
-wrote ram (suc n) addresses values w = after (wrote ram n addresses values w) (writing ram (getD addresses n 0) (getD values n 0))
+unfoldable pub allWritten : Bool → ℕ → List ℕ → List ℕ → World → World
+allWritten ram zero addresses values w = w
+allWritten ram (suc n) addresses values w = afterLine (allWritten ram n addresses values w) (writing ram (getD addresses n 0) (getD values n 0))
 
 -- an input begins with n such lines, and the rest is `behind` them: they print nothing, and the log goes on there
 pub record Collects (ram : Bool) (input behind : List ℕ) (n : ℕ) (addresses values : List ℕ) : Type 0 where
-  pub left : (w : World) (number : ℕ) (more : List ℕ) → restText w number [] (input ++ more) ≡ restText (wrote ram n addresses values w) (number + n) [] (behind ++ more)
+  pub left : (w : World) (number : ℕ) (more : List ℕ) → restText w number [] (input ++ more) ≡ restText (allWritten ram n addresses values w) (number + n) [] (behind ++ more)
 
 -- the same of a world and a line's number
 pub record Bursts (w : World) (number : ℕ) (input : List ℕ) (next : World) (line : ℕ) (behind : List ℕ) : Type 0 where

@@ -6,11 +6,11 @@ use lib.Dec.{eqb}
 use lib.ListN.{length}
 use Rattle.log.specs.declared.Line.{Line}
 use Rattle.log.specs.declared.Line.the-variants.{Write, WriteRam, Read, Peek, Clock, Version, Malformed}
-use Rattle.log.specs.Lines.{lineOf}
+use Rattle.log.specs.Lines.{parsedLine}
 use Rattle.log.specs.Texts.{badLine, peakLine}
 use Rattle.log_player.specs.declared.Player.{Player}
 use Rattle.log_player.specs.Worlds.{World, freshWorld}
-use Rattle.log_player.specs.Applied.{after, printed}
+use Rattle.log_player.specs.Applied.{afterLine, printed}
 
 abbrev pub malformed : Line → Bool
 malformed (Write a v) = false
@@ -30,7 +30,7 @@ unfoldable pub restText : World → ℕ → List ℕ → List ℕ → List ℕ
 restText w number line [] = endText (w .player) number (length line)
 restText w number line (c ∷ cs) =
     cond (eqb c 10)
-    (cond (malformed (lineOf line)) (badLine number) (printed w (lineOf line) ++ restText (after w (lineOf line)) (suc number) [] cs))
+    (cond (malformed (parsedLine line)) (badLine number) (printed w (parsedLine line) ++ restText (afterLine w (parsedLine line)) (suc number) [] cs))
     (restText w number (line ++ (c ∷ [])) cs)
 
 -- what a log prints

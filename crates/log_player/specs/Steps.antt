@@ -4,12 +4,12 @@ use mathlib.Core.List.{List, [], _∷_}
 use Prim.Native.Nat.{ℕ, _+_}
 use lib.Dec.{eqb, leb}
 use lib.ListN.{length}
-use Rattle.log.specs.Lines.{lineOf}
+use Rattle.log.specs.Lines.{parsedLine}
 use Rattle.log.specs.Texts.{badLine}
 use Rattle.log_player.specs.declared.Next.{Next}
 use Rattle.log_player.specs.declared.Next.the-variants.{Line as Played, Rest, Bad}
 use Rattle.log_player.specs.Worlds.{World}
-use Rattle.log_player.specs.Applied.{after, printed}
+use Rattle.log_player.specs.Applied.{afterLine, printed}
 use Rattle.log_player.specs.Logs.{malformed}
 
 -- the bytes before the first byte 10
@@ -21,14 +21,14 @@ firstLine (c ∷ cs) = cond (eqb c 10) [] (c ∷ firstLine cs)
 unfoldable pub nextOf : List ℕ → ℕ → Next
 nextOf rest at =
     cond (eqb (length (firstLine rest)) (length rest)) (cond (leb (length rest) 16) Rest Bad)
-    (cond (malformed (lineOf (firstLine rest))) Bad (Played (at + length (firstLine rest) + 1)))
+    (cond (malformed (parsedLine (firstLine rest))) Bad (Played (at + length (firstLine rest) + 1)))
 
 abbrev pub stepAfter : World → Next → List ℕ → World
-stepAfter w (Played place) line = after w (lineOf line)
+stepAfter w (Played place) line = afterLine w (parsedLine line)
 stepAfter w Rest line = w
 stepAfter w Bad line = w
 
 abbrev pub stepText : World → ℕ → Next → List ℕ → List ℕ
-stepText w number (Played place) line = printed w (lineOf line)
+stepText w number (Played place) line = printed w (parsedLine line)
 stepText w number Rest line = []
 stepText w number Bad line = badLine number

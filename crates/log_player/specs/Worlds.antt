@@ -3,6 +3,7 @@ use mathlib.Core.List.{List}
 use Prim.Native.Nat.{ℕ}
 use lib.IntN.{ℤ, pos}
 use lib.ListN.{replicate}
+use Rattle.sizes.specs.Sizes.{queueBuffer}
 use Rattle.version.specs.declared.SguVersion.the-variants.{«V3_1»}
 use Rattle.s3w2.specs.declared.Chip.{Chip}
 use Rattle.s3w2.specs.Fresh.{madeCalled}
@@ -25,4 +26,4 @@ freshPlayer ram = record { chip = madeCalled ram «V3_1» .chip; left = 0; right
 
 -- document 01's: 65,536 bytes of zeros
 abbrev pub freshWorld : World
-freshWorld = world (freshPlayer 65536) (replicate 65536 0) (replicate 16384 (pos 0))
+freshWorld = world (freshPlayer 65536) (replicate 65536 0) (replicate queueBuffer (pos 0))

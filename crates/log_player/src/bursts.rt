@@ -3,7 +3,7 @@ ghost use mathlib.Core.Path.{_≡_};
 ghost use Prim.Native.Nat.{_+_, _≤_, _^_, _<_, min};
 ghost use lib.ListN.{length, drop};
 ghost use Rattle.log_player.specs.Worlds.{world};
-ghost use Rattle.log_player.specs.Bursts.{beginsWrite, assignedBy, wrote, Collects, Bursts};
+ghost use Rattle.log_player.specs.Bursts.{beginsWrite, assignedBy, allWritten, Collects, Bursts};
 use crate::Assigned;
 use crate::Burst;
 use crate::Collected;
@@ -89,7 +89,7 @@ impl Player {
         ram: &mut [u8],
         queues: &mut [i16],
     ) -> Player
-        ensures { λ r. ⌜ world r (now (ram .exit)) (now (queues .exit)) ≡ wrote «to_ram» (min (length (now (addresses .entry))) (length (now (values .entry)))) (now (addresses .entry)) (now (values .entry)) (world self (now (ram .entry)) (now (queues .entry))) ⌝ }
+        ensures { λ r. ⌜ world r (now (ram .exit)) (now (queues .exit)) ≡ allWritten «to_ram» (min (length (now (addresses .entry))) (length (now (values .entry)))) (now (addresses .entry)) (now (values .entry)) (world self (now (ram .entry)) (now (queues .entry))) ⌝ }
     {
         let chip = self.chip;
         if to_ram {

@@ -5,7 +5,7 @@ ghost use lib.ListN.{length};
 ghost use Rattle.decimal.specs.Written.{Put};
 ghost use Rattle.s3w2.specs.Fresh.{madeRam};
 ghost use Rattle.log_player.specs.Worlds.{world, withChip, freshPlayer};
-ghost use Rattle.log_player.specs.Applied.{byteOf, clocked, clockedText, silent, playerAfter, ramAfter, queuesAfter, printed};
+ghost use Rattle.log_player.specs.Applied.{byteAnswered, clockedPlayer, clockedText, silent, playerAfter, ramAfter, queuesAfter, printed};
 use crate::Played;
 use crate::Player;
 use log::Line;
@@ -15,7 +15,7 @@ use version::SguVersion;
 
 // The byte that a call answers; 0 where it was turned away.
 fn byte_of(answer: Answer) -> u8
-    ensures { λ r. ⌜ r ≡ byteOf answer ⌝ }
+    ensures { λ r. ⌜ r ≡ byteAnswered answer ⌝ }
 {
     match answer {
         Answer::Byte(byte) => byte,
@@ -67,7 +67,7 @@ impl Player {
         out: &mut [u8],
         at: usize,
     ) -> Played
-        ensures { λ r. ⌜ r .player ≡ clocked self (now (ram .entry)) (now (queues .entry)) (now (left .entry)) (now (right .entry)) ⌝ }
+        ensures { λ r. ⌜ r .player ≡ clockedPlayer self (now (ram .entry)) (now (queues .entry)) (now (left .entry)) (now (right .entry)) ⌝ }
         ensures { λ _. ⌜ now (queues .exit) ≡ now (queues .entry) ⌝ }
         ensures { λ r. ⌜ Put (now (out .entry)) (now (out .exit)) at (clockedText (self .chip) (now (ram .entry)) (now (queues .entry)) (now (left .entry)) (now (right .entry))) (r .end) ⌝ }
         ensures { λ _. ⌜ length (clockedText (self .chip) (now (ram .entry)) (now (queues .entry)) (now (left .entry)) (now (right .entry))) ≤ 16 * length (now (left .entry)) ⌝ }
@@ -85,7 +85,7 @@ impl Player {
     }
 
     fn clock(self, frames: u32, ram: &[u8], queues: &mut [i16], out: &mut [u8], at: usize) -> Played
-        ensures { λ r. ⌜ r .player ≡ clocked self (now (ram .entry)) (now (queues .entry)) (silent frames) (silent frames) ⌝ }
+        ensures { λ r. ⌜ r .player ≡ clockedPlayer self (now (ram .entry)) (now (queues .entry)) (silent frames) (silent frames) ⌝ }
         ensures { λ _. ⌜ now (queues .exit) ≡ now (queues .entry) ⌝ }
         ensures { λ r. ⌜ Put (now (out .entry)) (now (out .exit)) at (clockedText (self .chip) (now (ram .entry)) (now (queues .entry)) (silent frames) (silent frames)) (r .end) ⌝ }
         ensures { λ _. ⌜ length (clockedText (self .chip) (now (ram .entry)) (now (queues .entry)) (silent frames) (silent frames)) ≤ 16000 ⌝ }

@@ -5,6 +5,7 @@ mod playing;
 mod saving;
 
 use log_player::Player;
+use sizes::QUEUE_BUFFER;
 
 pub(crate) enum Program {
     Log,
@@ -43,7 +44,7 @@ fn with_queues(program: Program, queues: &mut [i16]) {
 }
 
 fn start(program: Program) {
-    let mut queues = [0i16; 16384];
+    let mut queues = [0i16; QUEUE_BUFFER];
     with_queues(program, &mut queues);
 }
 

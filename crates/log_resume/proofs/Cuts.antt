@@ -6,14 +6,14 @@ use mathlib.Core.List.{List, [], _∷_, _++_, append-assoc, append-nil}
 use Prim.Native.Nat.{ℕ, suc}
 use lib.Dec.{eqb}
 use Rattle.num.proofs.Choice.{never}
-use Rattle.log.specs.Lines.{lineOf}
+use Rattle.log.specs.Lines.{parsedLine}
 use Rattle.log.specs.Texts.{badLine}
 use Rattle.log.proofs.Bytes.{line-fits}
 use Rattle.plain_chip.specs.Lists.{Every}
 use Rattle.log_player.specs.Worlds.{World, freshWorld}
-use Rattle.log_player.specs.Applied.{after, printed}
+use Rattle.log_player.specs.Applied.{afterLine, printed}
 use Rattle.log_player.specs.Logs.{malformed, restText}
-use Rattle.call_ties.proofs.Every.{tied}
+use Rattle.chip_calls.proofs.Every.{tied}
 use Rattle.resume.proofs.Steps.{HeldMachine}
 use Rattle.resume.proofs.Alike.{Alike, resumed-alike}
 use Rattle.log_resume.specs.Cuts.{soundsOf, lastOf, noEnd, WellFormed, half, played, machineOf, fresh, loaded}
@@ -33,7 +33,7 @@ pub sounds-and-last : (input : List ℕ) (w : World) (number : ℕ) (line : List
 unfolding restText soundsOf lastOf
 sounds-and-last [] w number line = refl
 sounds-and-last (c ∷ cs) w number line =
-    either _ _ _ _ (badLine number) (eqb c 10) (malformed (lineOf line)) (printed w (lineOf line)) _ _ (sounds-and-last cs (after w (lineOf line)) (suc number) []) (sounds-and-last cs w number (line ++ (c ∷ [])))
+    either _ _ _ _ (badLine number) (eqb c 10) (malformed (parsedLine line)) (printed w (parsedLine line)) _ _ (sounds-and-last cs (afterLine w (parsedLine line)) (suc number) []) (sounds-and-last cs w number (line ++ (c ∷ [])))
 
 -- ---- players that are alike print alike
 alike-either : (ends wrong : Bool) (x y x′ y′ : List ℕ) → (wrong ≡ false → x ≡ y) → x′ ≡ y′ → cond ends (cond wrong [] x) x′ ≡ cond ends (cond wrong [] y) y′
@@ -45,36 +45,36 @@ sounds-alike : (input : List ℕ) (v w : World) → Alike (machineOf v) (machine
 unfolding soundsOf
 sounds-alike [] v w a line = refl
 sounds-alike (c ∷ cs) v w a line =
-    alike-either (eqb c 10) (malformed (lineOf line)) _ _ _ _
-    (λ e. ap₂ (λ (x y : List ℕ). x ++ y) (alike-printed v w a (lineOf line) (line-fits line)) (sounds-alike cs (after v (lineOf line)) (after w (lineOf line)) (alike-after v w a (lineOf line) (line-fits line) e) []))
+    alike-either (eqb c 10) (malformed (parsedLine line)) _ _ _ _
+    (λ e. ap₂ (λ (x y : List ℕ). x ++ y) (alike-printed v w a (parsedLine line) (line-fits line)) (sounds-alike cs (afterLine v (parsedLine line)) (afterLine w (parsedLine line)) (alike-after v w a (parsedLine line) (line-fits line) e) []))
     (sounds-alike cs v w a (line ++ (c ∷ [])))
 
 -- ---- the first half
 -- a whole line and what follows it
-sounds-line : (l : List ℕ) (w : World) (pre rest : List ℕ) → noEnd l ≡ true → malformed (lineOf (pre ++ l)) ≡ false
-    → soundsOf w pre (l ++ (10 ∷ rest)) ≡ printed w (lineOf (pre ++ l)) ++ soundsOf (after w (lineOf (pre ++ l))) [] rest
+sounds-line : (l : List ℕ) (w : World) (pre rest : List ℕ) → noEnd l ≡ true → malformed (parsedLine (pre ++ l)) ≡ false
+    → soundsOf w pre (l ++ (10 ∷ rest)) ≡ printed w (parsedLine (pre ++ l)) ++ soundsOf (afterLine w (parsedLine (pre ++ l))) [] rest
 unfolding soundsOf
 sounds-line [] w pre rest h e =
     let n = append-nil pre in
-    ap (λ (b : Bool). cond b [] (printed w (lineOf pre) ++ soundsOf (after w (lineOf pre)) [] rest)) (ap (λ (l : List ℕ). malformed (lineOf l)) (sym n) ∙ e)
-    ∙ ap (λ (l : List ℕ). printed w (lineOf l) ++ soundsOf (after w (lineOf l)) [] rest) (sym n)
+    ap (λ (b : Bool). cond b [] (printed w (parsedLine pre) ++ soundsOf (afterLine w (parsedLine pre)) [] rest)) (ap (λ (l : List ℕ). malformed (parsedLine l)) (sym n) ∙ e)
+    ∙ ap (λ (l : List ℕ). printed w (parsedLine l) ++ soundsOf (afterLine w (parsedLine l)) [] rest) (sym n)
 sounds-line (c ∷ l) w pre rest h e = go (eqb c 10) refl (sounds-line l w (pre ++ (c ∷ [])) rest)
   where
     joined : (pre ++ (c ∷ [])) ++ l ≡ pre ++ (c ∷ l)
     joined = append-assoc pre (c ∷ []) l
 
     ended : List ℕ
-    ended = cond (malformed (lineOf pre)) [] (printed w (lineOf pre) ++ soundsOf (after w (lineOf pre)) [] (l ++ (10 ∷ rest)))
+    ended = cond (malformed (parsedLine pre)) [] (printed w (parsedLine pre) ++ soundsOf (afterLine w (parsedLine pre)) [] (l ++ (10 ∷ rest)))
 
     part : List ℕ → List ℕ
-    part x = printed w (lineOf x) ++ soundsOf (after w (lineOf x)) [] rest
+    part x = printed w (parsedLine x) ++ soundsOf (afterLine w (parsedLine x)) [] rest
 
-    go : (b : Bool) → eqb c 10 ≡ b → (noEnd l ≡ true → malformed (lineOf ((pre ++ (c ∷ [])) ++ l)) ≡ false → soundsOf w (pre ++ (c ∷ [])) (l ++ (10 ∷ rest)) ≡ part ((pre ++ (c ∷ [])) ++ l))
+    go : (b : Bool) → eqb c 10 ≡ b → (noEnd l ≡ true → malformed (parsedLine ((pre ++ (c ∷ [])) ++ l)) ≡ false → soundsOf w (pre ++ (c ∷ [])) (l ++ (10 ∷ rest)) ≡ part ((pre ++ (c ∷ [])) ++ l))
         → cond (eqb c 10) ended (soundsOf w (pre ++ (c ∷ [])) (l ++ (10 ∷ rest))) ≡ part (pre ++ (c ∷ l))
     go true t ih = never (sym (sym (ap (λ (b : Bool). cond b false (noEnd l)) t) ∙ h))
     go false t ih =
         ap (λ (b : Bool). cond b ended (soundsOf w (pre ++ (c ∷ [])) (l ++ (10 ∷ rest)))) t
-        ∙ ih (sym (ap (λ (b : Bool). cond b false (noEnd l)) t) ∙ h) (ap (λ (x : List ℕ). malformed (lineOf x)) joined ∙ e)
+        ∙ ih (sym (ap (λ (b : Bool). cond b false (noEnd l)) t) ∙ h) (ap (λ (x : List ℕ). malformed (parsedLine x)) joined ∙ e)
         ∙ ap part joined
 
 no-half : (w : World) (rest : List ℕ) → soundsOf w [] rest ≡ soundsOf w [] [] ++ soundsOf w [] rest
@@ -84,8 +84,8 @@ no-half w rest = refl
 pub halves : (lines : List (List ℕ)) (w : World) (rest : List ℕ) → Every WellFormed lines → soundsOf w [] (half lines ++ rest) ≡ soundsOf w [] (half lines) ++ soundsOf (played w lines) [] rest
 halves [] w rest f = no-half w rest
 halves (line ∷ lines) w rest f =
-    let out = printed w (lineOf line) in
-    let next = after w (lineOf line) in
+    let out = printed w (parsedLine line) in
+    let next = afterLine w (parsedLine line) in
     ap (soundsOf w []) (append-assoc line (10 ∷ half lines) rest)
     ∙ sounds-line line w [] (half lines ++ rest) (f .0 .one) (f .0 .played)
     ∙ ap (λ (l : List ℕ). out ++ l) (halves lines next rest (f .1))
@@ -95,8 +95,8 @@ halves (line ∷ lines) w rest f =
 pub held-played : (lines : List (List ℕ)) (w : World) → HeldMachine (machineOf w) → Every WellFormed lines → HeldMachine (machineOf (played w lines))
 held-played [] w h f = h
 held-played (line ∷ lines) w h f =
-    let l = lineOf line in
-    held-played lines (after w l) (subst HeldMachine (sym (next-same w l (f .0 .played))) (tied (machineOf w) h (callOf l) (call-fits l (line-fits line)) .held)) (f .1)
+    let l = parsedLine line in
+    held-played lines (afterLine w l) (subst HeldMachine (sym (next-same w l (f .0 .played))) (tied (machineOf w) h (callOf l) (call-fits l (line-fits line)) .held)) (f .1)
 
 -- THE CUT: a log of well-formed lines and whatever follows them prints the lines of its first half, and then those that the second half prints
 -- when it is played from the state that the first half leaves.

@@ -9,19 +9,19 @@ use Rattle.num.proofs.Choice.{never}
 use Rattle.log.specs.declared.Line.{Line}
 use Rattle.log.specs.declared.Line.the-variants.{Write, WriteRam, Read, Peek, Clock, Version, Malformed}
 use Rattle.log.proofs.Bytes.{FitLine}
-use Rattle.log.specs.Texts.{frameLines, readLine}
+use Rattle.log.specs.Texts.{frameLines, readBackLine}
 use Rattle.version.specs.Versions.{versionOf}
 use Rattle.s3w2.specs.declared.Answer.{Answer}
 use Rattle.s3w2.specs.declared.Answer.the-variants.{Done, Byte, Sample, Count, Flag, RamLength, QueueBuffer, NotAccepted, StemBuffer}
 use Rattle.s3w2.specs.Registers.{readRegisterCalled, peekRegisterAnswer}
 use Rattle.log_player.specs.Worlds.{World}
-use Rattle.log_player.specs.Applied.{byteOf, silent, clocked, clockedText, playerAfter, ramAfter, queuesAfter, after, printed}
+use Rattle.log_player.specs.Applied.{byteAnswered, silent, clockedPlayer, clockedText, playerAfter, ramAfter, queuesAfter, afterLine, printed}
 use Rattle.log_player.specs.Logs.{malformed}
 use Rattle.call_lists.specs.Calls as list
 use Rattle.call_lists.specs.Calls.{Call, Reply}
 use Rattle.call_lists.specs.Seen.{FitCall}
-use Rattle.call_ties.specs.Ties.{Machine, replyOf}
-use Rattle.call_ties.specs.Code.{code}
+use Rattle.chip_calls.specs.Ties.{Machine, replyOf}
+use Rattle.chip_calls.specs.Code.{code}
 use Rattle.resume.proofs.Alike.{Alike, same-answer, still-alike}
 use Rattle.log_resume.specs.Cuts.{machineOf}
 
@@ -45,8 +45,8 @@ call-fits (Version v) f = tt
 call-fits Malformed f = tt
 
 -- ---- what a line leaves
-pub next-same : (w : World) (l : Line) → malformed l ≡ false → machineOf (after w l) ≡ code (machineOf w) (callOf l) .next
-unfolding playerAfter ramAfter queuesAfter clocked code
+pub next-same : (w : World) (l : Line) → malformed l ≡ false → machineOf (afterLine w l) ≡ code (machineOf w) (callOf l) .next
+unfolding playerAfter ramAfter queuesAfter clockedPlayer code
 next-same w (Write a v) e = refl
 next-same w (WriteRam a v) e = refl
 next-same w (Read a) e = refl
@@ -64,7 +64,7 @@ byteIn (list.flag x) = 0
 byteIn (list.sample x) = 0
 byteIn (list.refused n) = 0
 
-byte-in : (x : Answer) → byteOf x ≡ byteIn (replyOf x)
+byte-in : (x : Answer) → byteAnswered x ≡ byteIn (replyOf x)
 unfolding byteIn
 byte-in (Byte x) = refl
 byte-in Done = refl
@@ -81,11 +81,11 @@ framesIn [] = []
 framesIn (left ∷ []) = []
 framesIn (left ∷ right ∷ l) = frameLines left right (min (length left) (length right))
 
-abbrev textOf : Line → list.Answer → List ℕ
+abbrev textOf : Line → list.CallAnswer → List ℕ
 textOf (Write a v) h = []
 textOf (WriteRam a v) h = []
-textOf (Read a) h = readLine 82 a (byteIn (h .reply))
-textOf (Peek a) h = readLine 80 a (byteIn (h .reply))
+textOf (Read a) h = readBackLine 82 a (byteIn (h .reply))
+textOf (Peek a) h = readBackLine 80 a (byteIn (h .reply))
 textOf (Clock n) h = framesIn (h .sides)
 textOf (Version v) h = []
 textOf Malformed h = []
@@ -94,8 +94,8 @@ text-same : (w : World) (l : Line) → printed w l ≡ textOf l (code (machineOf
 unfolding printed clockedText code
 text-same w (Write a v) = refl
 text-same w (WriteRam a v) = refl
-text-same w (Read a) = ap (readLine 82 a) (byte-in (readRegisterCalled (w .player .chip) a .answer))
-text-same w (Peek a) = ap (readLine 80 a) (byte-in (peekRegisterAnswer (w .player .chip) a))
+text-same w (Read a) = ap (readBackLine 82 a) (byte-in (readRegisterCalled (w .player .chip) a .answer))
+text-same w (Peek a) = ap (readBackLine 80 a) (byte-in (peekRegisterAnswer (w .player .chip) a))
 text-same w (Clock n) = refl
 text-same w (Version v) = refl
 text-same w Malformed = refl
@@ -105,7 +105,7 @@ module _ (v w : World) (a : Alike (machineOf v) (machineOf w)) (l : Line) (f : F
   pub alike-printed : printed v l ≡ printed w l
   alike-printed = text-same v l ∙ ap (textOf l) (same-answer (machineOf v) (machineOf w) a (callOf l) (call-fits l f)) ∙ sym (text-same w l)
 
-  pub alike-after : malformed l ≡ false → Alike (machineOf (after v l)) (machineOf (after w l))
+  pub alike-after : malformed l ≡ false → Alike (machineOf (afterLine v l)) (machineOf (afterLine w l))
   alike-after e =
-      subst (λ (m : Machine). Alike m (machineOf (after w l))) (sym (next-same v l e))
+      subst (λ (m : Machine). Alike m (machineOf (afterLine w l))) (sym (next-same v l e))
       (subst (λ (m : Machine). Alike (code (machineOf v) (callOf l) .next) m) (sym (next-same w l e)) (still-alike (machineOf v) (machineOf w) a (callOf l) (call-fits l f)))

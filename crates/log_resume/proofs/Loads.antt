@@ -5,29 +5,30 @@ use Prim.Native.Nat.{ℕ, zero, suc, _+_, _≤_, _<_}
 use native.Mathlib.Omega.{arith}
 use lib.IntN.{ℤ, pos}
 use lib.ListN.{replicate}
+use Rattle.sizes.specs.Sizes.{queueBuffer}
 use Rattle.version.specs.declared.SguVersion.{SguVersion}
-use Rattle.voice_line.specs.Lines.{ReadVoice, voice, malformed, readVoice}
+use Rattle.session_lines.specs.Lines.{ReadVoice, voice, malformed, readVoice}
 use Rattle.s3w2.specs.declared.Chip.{Chip}
 use Rattle.session.specs.declared.LineAnswer.the-variants.{Done}
 use Rattle.session.specs.declared.LineCalled.{LineCalled}
 use Rattle.session.specs.Heads.{readHeadCalled}
-use Rattle.session.specs.Voices.{lineOf, voiceCalled, readVoiceCalled, readVoiceQueues}
+use Rattle.session.specs.Voices.{lineOfVoice, voiceCalled, readVoiceCalled, readVoiceQueues}
 use Rattle.session.proofs.Lines.{goes-on}
 use Rattle.plain_chip.specs.Voices.{PlainVoice}
 use Rattle.slots.specs.Slots.{plainOf}
 use Rattle.slots.proofs.Loads.{fit-plain}
-use Rattle.chip_slots.specs.Whole.{row, slotAt}
-use Rattle.chip_slots.proofs.Frames.{ok-at}
+use Rattle.chip_as_slots.specs.Whole.{row, slotAt}
+use Rattle.chip_as_slots.proofs.Frames.{ok-at}
 use Rattle.call_lists.specs.Runs.{after}
 use Rattle.call_lists.specs.Texts as texts
 use Rattle.call_lists.specs.Calls as list
 use Rattle.session_texts.specs.Session.{voiceRead}
 use Rattle.session_texts.proofs.Read.{session-is-ok}
 use Rattle.session_texts.proofs.Written.{text-plain}
-use Rattle.call_ties.specs.Ties.{Machine, Held}
-use Rattle.call_ties.specs.Code.{code}
-use Rattle.call_ties.proofs.Accepting.{state-accepted}
-use Rattle.call_ties.proofs.Every.{tied}
+use Rattle.chip_calls.specs.Ties.{Machine, GoodMachine}
+use Rattle.chip_calls.specs.Code.{code}
+use Rattle.chip_calls.proofs.Accepting.{state-accepted}
+use Rattle.chip_calls.proofs.Every.{tied}
 use Rattle.resume.specs.Stops.{Second}
 use Rattle.resume.proofs.Steps.{HeldMachine}
 use Rattle.resume.proofs.Second.{headedChip, head-called, headed-held, read-on}
@@ -58,10 +59,10 @@ module _ (w : World) (h : HeldMachine (machineOf w)) where
   version = chip .version
 
   abbrev line : ℕ → List ℕ
-  line i = lineOf chip (w .queues) i
+  line i = lineOfVoice chip (w .queues) i
 
   reads : (i : ℕ) → i < 8 → voiceRead (readVoice version (line i)) ≡ texts.voice i (plainOf (slotAt (chip .core) (w .queues) i))
-  unfolding lineOf
+  unfolding lineOfVoice
   reads i l =
       let s = slotAt (chip .core) (w .queues) i in
       let ok = ok-at version (w .ram) (chip .core) (w .queues) (h .good .voices) i l in
@@ -69,7 +70,7 @@ module _ (w : World) (h : HeldMachine (machineOf w)) where
       ∙ session-is-ok .voice-back version i (plainOf s) l (fit-plain version (w .ram) s ok)
 
   -- ---- a chip of the same version reads a voice's line
-  module _ (c : Chip) (q : List ℤ) (g : Held c (w .ram) q) (e : c .version ≡ version) (i : ℕ) (l : i < 8) where
+  module _ (c : Chip) (q : List ℤ) (g : GoodMachine c (w .ram) q) (e : c .version ≡ version) (i : ℕ) (l : i < 8) where
     called-is : readVoiceCalled c q (line i) ≡ voiceCalled c (readVoice (c .version) (line i))
     unfolding readVoiceCalled
     called-is = sym (goes-on c q _ _ _ (g .long) (state-accepted c (w .ram) q g))
@@ -82,7 +83,7 @@ module _ (w : World) (h : HeldMachine (machineOf w)) where
     still : readVoiceCalled c q (line i) .chip .version ≡ version
     still = ap (λ (x : LineCalled). x .chip .version) called-is ∙ version-of c (readVoice (c .version) (line i)) ∙ e
 
-    held : Held (readVoiceCalled c q (line i) .chip) (w .ram) (readVoiceQueues c q (line i))
+    held : GoodMachine (readVoiceCalled c q (line i) .chip) (w .ram) (readVoiceQueues c q (line i))
     unfolding code
     held = tied (record { chip = c; ram = w .ram; queues = q }) g (list.readVoice (line i)) tt .held
 
@@ -93,7 +94,7 @@ module _ (w : World) (h : HeldMachine (machineOf w)) where
   abbrev ended : Player → Machine → List ℕ → Load
   ended p m more = load.loaded (withChip p (m .chip)) (m .queues) more
 
-  voices : (n i : ℕ) (g : ℕ → List ℕ) → ((j k : ℕ) → j < n → k ≡ i + j → g j ≡ line k) → i + n ≤ 8 → (p : Player) (q : List ℤ) → Held (p .chip) (w .ram) q → p .chip .version ≡ version → (more : List ℕ)
+  voices : (n i : ℕ) (g : ℕ → List ℕ) → ((j k : ℕ) → j < n → k ≡ i + j → g j ≡ line k) → i + n ≤ 8 → (p : Player) (q : List ℤ) → GoodMachine (p .chip) (w .ram) q → p .chip .version ≡ version → (more : List ℕ)
       → readLines n (suc i) p q (stateLines chip (w .queues) n (suc i) ++ more) ≡ ended p (after code (at p q) (map list.readVoice (row n g))) more
   unfolding readLines code
   voices zero i g f b p q k e more = refl
@@ -112,13 +113,13 @@ module _ (w : World) (h : HeldMachine (machineOf w)) where
       ∙ ap (λ (t : List ℕ). ended p (after code (code (at p q) (list.readVoice t) .next) (map list.readVoice (row n (λ j. g (suc j))))) more) (sym (f 0 i (omega arith) (omega arith)))
 
   -- ---- THE STATE READ: a fresh player that reads it, and whatever follows it, goes on as `loaded` does, with the RAM's bytes behind the lines
-  pub loads : (more : List ℕ) → readLines 9 0 (freshPlayer 65536) (replicate 16384 (pos 0)) (stateText w ++ more) ≡ load.loaded (loaded w .player) (loaded w .queues) (w .ram ++ more)
+  pub loads : (more : List ℕ) → readLines 9 0 (freshPlayer 65536) (replicate queueBuffer (pos 0)) (stateText w ++ more) ≡ load.loaded (loaded w .player) (loaded w .queues) (w .ram ++ more)
   loads more =
       let m = machineOf w in
       let second : Machine = fresh (w .ram) in
       let s : Second m second = fresh-second m h in
       let p = freshPlayer 65536 in
-      let q : List ℤ = replicate 16384 (pos 0) in
+      let q : List ℤ = replicate queueBuffer (pos 0) in
       let l : List ℕ = stateLine chip (w .queues) 0 in
       let is = head-line chip (w .queues) in
       let rest : List ℕ = stateLines chip (w .queues) 8 1 in

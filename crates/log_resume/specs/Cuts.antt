@@ -6,17 +6,18 @@ use Prim.Native.Nat.{ℕ, suc}
 use lib.Dec.{eqb}
 use lib.IntN.{pos}
 use lib.ListN.{length, replicate}
-use Rattle.log.specs.Lines.{lineOf}
+use Rattle.sizes.specs.Sizes.{queueBuffer}
+use Rattle.log.specs.Lines.{parsedLine}
 use Rattle.log.specs.Texts.{badLine}
 use Rattle.version.specs.declared.SguVersion.the-variants.{«V3_1»}
 use Rattle.s3w2.specs.Fresh.{madeCalled}
 use Rattle.log_player.specs.Worlds.{World, world, freshPlayer, freshWorld}
-use Rattle.log_player.specs.Applied.{after, printed}
+use Rattle.log_player.specs.Applied.{afterLine, printed}
 use Rattle.log_player.specs.Logs.{malformed, endText}
 use Rattle.log_state.specs.Lines.{stateText}
 use Rattle.log_state.specs.Loads.{readLines, skipped}
 use Rattle.log_state.specs.Loads as load
-use Rattle.call_ties.specs.Ties.{Machine}
+use Rattle.chip_calls.specs.Ties.{Machine}
 use Rattle.resume.specs.Stops.{seen, resumed}
 
 -- the `F`, `R` and `P` lines that the rest of a log prints, of which the bytes `line` were read already; nothing behind a malformed line
@@ -24,7 +25,7 @@ unfoldable pub soundsOf : World → List ℕ → List ℕ → List ℕ
 soundsOf w line [] = []
 soundsOf w line (c ∷ cs) =
     cond (eqb c 10)
-    (cond (malformed (lineOf line)) [] (printed w (lineOf line) ++ soundsOf (after w (lineOf line)) [] cs))
+    (cond (malformed (parsedLine line)) [] (printed w (parsedLine line) ++ soundsOf (afterLine w (parsedLine line)) [] cs))
     (soundsOf w (line ++ (c ∷ [])) cs)
 
 -- its last line: the peak, or that a line is malformed
@@ -32,7 +33,7 @@ unfoldable pub lastOf : World → ℕ → List ℕ → List ℕ → List ℕ
 lastOf w number line [] = endText (w .player) number (length line)
 lastOf w number line (c ∷ cs) =
     cond (eqb c 10)
-    (cond (malformed (lineOf line)) (badLine number) (lastOf (after w (lineOf line)) (suc number) [] cs))
+    (cond (malformed (parsedLine line)) (badLine number) (lastOf (afterLine w (parsedLine line)) (suc number) [] cs))
     (lastOf w number (line ++ (c ∷ [])) cs)
 
 -- ---- a half that is played whole: well-formed lines, each ended by byte 10
@@ -42,7 +43,7 @@ noEnd (c ∷ cs) = cond (eqb c 10) false (noEnd cs)
 
 pub record WellFormed (line : List ℕ) : Type 0 where
   pub one : noEnd line ≡ true
-  pub played : malformed (lineOf line) ≡ false
+  pub played : malformed (parsedLine line) ≡ false
 
 abbrev pub half : List (List ℕ) → List ℕ
 half [] = []
@@ -50,14 +51,14 @@ half (line ∷ lines) = line ++ (10 ∷ half lines)
 
 abbrev pub played : World → List (List ℕ) → World
 played w [] = w
-played w (line ∷ lines) = played (after w (lineOf line)) lines
+played w (line ∷ lines) = played (afterLine w (parsedLine line)) lines
 
 -- ---- a fresh player that has read a state: the RAM and the session text
 abbrev pub machineOf : World → Machine
 machineOf w = record { chip = w .player .chip; ram = w .ram; queues = w .queues }
 
 abbrev pub fresh : List ℕ → Machine
-fresh ram = record { chip = madeCalled 65536 «V3_1» .chip; ram = ram; queues = replicate 16384 (pos 0) }
+fresh ram = record { chip = madeCalled 65536 «V3_1» .chip; ram = ram; queues = replicate queueBuffer (pos 0) }
 
 abbrev pub loadedMachine : World → Machine
 loadedMachine w = resumed (fresh (w .ram)) (seen (machineOf w))
@@ -70,8 +71,8 @@ loaded w = world (record { chip = loadedMachine w .chip; left = 0; right = 0 }) 
 -- `first` are the lines that s3w2-save plays, `second` is the log behind its state. What s3w2-save prints, the first half's `F`, `R` and `P` lines and then
 -- the state, is read by s3w2-load as `loaded`, with the RAM and the second half behind it; and the whole log prints the first half's lines and then those that the second
 -- half prints from there.
-pub record Fed (first : List (List ℕ)) (second : List ℕ) : Type 0 where
-  pub read : readLines 9 0 (freshPlayer 65536) (replicate 16384 (pos 0)) (skipped (soundsOf freshWorld [] (half first) ++ (stateText (played freshWorld first) ++ second)))
+pub record CutLog (first : List (List ℕ)) (second : List ℕ) : Type 0 where
+  pub read : readLines 9 0 (freshPlayer 65536) (replicate queueBuffer (pos 0)) (skipped (soundsOf freshWorld [] (half first) ++ (stateText (played freshWorld first) ++ second)))
       ≡ load.loaded (loaded (played freshWorld first) .player) (loaded (played freshWorld first) .queues) (played freshWorld first .ram ++ second)
   pub heard : soundsOf freshWorld [] (half first ++ second)
       ≡ soundsOf freshWorld [] (half first) ++ soundsOf (world (loaded (played freshWorld first) .player) (played freshWorld first .ram) (loaded (played freshWorld first) .queues)) [] second

@@ -11,7 +11,7 @@ use Rattle.session.specs.Heads.{writeHeadAnswer, writeHeadText, readHeadCalled}
 use Rattle.session.specs.Voices.{writeVoiceAnswer, writeVoiceText, readVoiceCalled, readVoiceQueues}
 use Rattle.log_player.specs.declared.Player.{Player}
 use Rattle.log_state.specs.declared.Taken.{Taken}
-use Rattle.log_state.specs.Lines.{putLineAnswer, putLineText, taken, takeLine, takeLineQueues}
+use Rattle.log_state.specs.Lines.{putLineAnswer, putLineText, takenBy, takeLine, takeLineQueues}
 
 module _ (chip : Chip) (queues : List ℤ) (k : ℕ) (out text : List ℕ) (answer : LineAnswer) where
   pub head-written : k ≡ 0 → (answer ≡ writeHeadAnswer chip out) × (text ≡ writeHeadText chip out) → (answer ≡ putLineAnswer chip queues k out) × (text ≡ putLineText chip queues k out)
@@ -23,10 +23,10 @@ module _ (chip : Chip) (queues : List ℤ) (k : ℕ) (out text : List ℕ) (answ
   voice-written e h = rw (ne-eqb k 0 e) h
 
 module _ (p : Player) (queues : List ℤ) (k : ℕ) (text : List ℕ) (r : Taken) (called : LineCalled) where
-  pub head-taken : k ≡ 0 → called ≡ readHeadCalled (p .chip) text → r ≡ taken p called → (r ≡ takeLine p queues k text) × (queues ≡ takeLineQueues p queues k text)
+  pub head-taken : k ≡ 0 → called ≡ readHeadCalled (p .chip) text → r ≡ takenBy p called → (r ≡ takeLine p queues k text) × (queues ≡ takeLineQueues p queues k text)
   unfolding takeLine takeLineQueues
-  head-taken e h s = rw (eq-eqb k 0 e) (s ∙ ap (λ (x : LineCalled). taken p x) h, refl)
+  head-taken e h s = rw (eq-eqb k 0 e) (s ∙ ap (λ (x : LineCalled). takenBy p x) h, refl)
 
-  pub voice-taken : (after : List ℤ) → (k ≡ 0 → ⊥) → (called ≡ readVoiceCalled (p .chip) queues text) × (after ≡ readVoiceQueues (p .chip) queues text) → r ≡ taken p called → (r ≡ takeLine p queues k text) × (after ≡ takeLineQueues p queues k text)
+  pub voice-taken : (after : List ℤ) → (k ≡ 0 → ⊥) → (called ≡ readVoiceCalled (p .chip) queues text) × (after ≡ readVoiceQueues (p .chip) queues text) → r ≡ takenBy p called → (r ≡ takeLine p queues k text) × (after ≡ takeLineQueues p queues k text)
   unfolding takeLine takeLineQueues
-  voice-taken after e h s = rw (ne-eqb k 0 e) (s ∙ ap (λ (x : LineCalled). taken p x) (h .0), h .1)
+  voice-taken after e h s = rw (ne-eqb k 0 e) (s ∙ ap (λ (x : LineCalled). takenBy p x) (h .0), h .1)

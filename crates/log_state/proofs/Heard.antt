@@ -10,7 +10,7 @@ use Rattle.decimal.specs.Written.{render}
 use Rattle.s3w2.specs.declared.Chip.{Chip}
 use Rattle.log.specs.declared.Line.{Line}
 use Rattle.log.specs.declared.Line.the-variants.{Write, WriteRam, Read, Peek, Clock, Version, Malformed}
-use Rattle.log.specs.Texts.{field, pairLine, frameLine, frameLines}
+use Rattle.log.specs.Texts.{commaField, pairLine, frameLine, frameLines}
 use Rattle.log_player.specs.Worlds.{World}
 use Rattle.log_player.specs.Applied.{clockedText, printed}
 use Rattle.log_state.specs.Finding.{soundLine}
@@ -58,16 +58,16 @@ skip-line line e s = record {
     next : (n : ℕ) → 1 + n ≡ suc n
     next n = omega arith
 
-field-goes : (z : ℤ) → Goes (field z)
-unfolding field
+field-goes : (z : ℤ) → Goes (commaField z)
+unfolding commaField
 field-goes z = both (44 ∷ []) (render z) (one 44 (omega arith)) (render-goes z)
 
 pair-ended : (c : ℕ) (a b : ℤ) → 10 < c → Ended (pairLine (c ∷ []) a b)
 unfolding pairLine
 pair-ended c a b h = record {
-  text = (c ∷ []) ++ (field a ++ field b);
-  whole = ap (λ (l : List ℕ). c ∷ l) (sym (append-assoc (field a) (field b) (10 ∷ [])));
-  goes = both (c ∷ []) (field a ++ field b) (one c h) (both (field a) (field b) (field-goes a) (field-goes b));
+  text = (c ∷ []) ++ (commaField a ++ commaField b);
+  whole = ap (λ (l : List ℕ). c ∷ l) (sym (append-assoc (commaField a) (commaField b) (10 ∷ [])));
+  goes = both (c ∷ []) (commaField a ++ commaField b) (one c h) (both (commaField a) (commaField b) (field-goes a) (field-goes b));
 }
 
 pair-skipped : (c : ℕ) (a b : ℤ) → 10 < c → soundLine c 0 ≡ true → Skipped (pairLine (c ∷ []) a b)

@@ -9,28 +9,29 @@ use lib.IntN.{ℤ, pos, negsuc}
 use lib.ListN.{length, take, drop, getD, length-append}
 use lib.Seq.{sets, take-append-seam, drop-append-seam}
 use borrow.Author.Tests.{eq-eqb, ne-eqb, le-leb, lt-leb}
+use Rattle.sizes.specs.Sizes.{queueBuffer}
 use Rattle.decimal.specs.Written.{digitsIn, decimal, render}
-use Rattle.line.specs.Table.{isSample, sampleOf}
-use Rattle.line.specs.Text.{fieldText, partText, partsText, lineText, writtenOf, putOf}
+use Rattle.line_fields.specs.Table.{isSample, sampleOfNumber}
+use Rattle.line_fields.specs.Text.{fieldText, partText, partsText, lineText, writtenOf, putOf}
 use Rattle.version.specs.declared.SguVersion.{SguVersion}
 use Rattle.version.specs.Versions.{versionNumber}
-use Rattle.voice_line.specs.Head.{headText}
-use Rattle.voice_line.specs.Lines.{voiceText}
+use Rattle.session_lines.specs.Head.{headText}
+use Rattle.session_lines.specs.Lines.{voiceText}
 use Rattle.s3w2.specs.declared.Chip.{Chip}
 use Rattle.session.specs.declared.LineAnswer.{LineAnswer}
 use Rattle.session.specs.declared.LineAnswer.the-variants.{Done, Written, QueueBuffer, NotAccepted}
 use Rattle.session.specs.Answers.{wrote, stateAccepted, queuesLent}
 use Rattle.session.specs.Heads.{writeHeadAnswer, writeHeadText, readHeadCalled}
-use Rattle.session.specs.Voices.{lineOf, writeVoiceAnswer, writeVoiceText, readVoiceCalled, readVoiceQueues}
+use Rattle.session.specs.Voices.{lineOfVoice, writeVoiceAnswer, writeVoiceText, readVoiceCalled, readVoiceQueues}
 use Rattle.log_player.specs.declared.Player.{Player}
 use Rattle.log_player.specs.Steps.{firstLine}
 use Rattle.log_state.specs.declared.Found.the-variants.{Line}
-use Rattle.log_state.specs.Lines.{stateLine, putLineAnswer, putLineText, taken, takeLine, takeLineQueues}
+use Rattle.log_state.specs.Lines.{stateLine, putLineAnswer, putLineText, takenBy, takeLine, takeLineQueues}
 use Rattle.log_state.specs.Loads.{frontLine, behindLine, goesOn, readLines}
 use Rattle.log_state.specs.Finding.{soundLine, foundAt}
 
 -- ---- a line of an accepted state is written where there is room for it
-module _ (chip : Chip) (queues : List ℤ) (a : stateAccepted chip ≡ true) (q : length queues ≡ 16384) where
+module _ (chip : Chip) (queues : List ℤ) (a : stateAccepted chip ≡ true) (q : length queues ≡ queueBuffer) where
   written : (out text : List ℕ) → length text ≤ length out → (wrote (writtenOf out text) ≡ Written (length text)) × (putOf out text ≡ sets out 0 text)
   written out text h = rw (le-leb (length text) (length out) h) (refl, refl)
 
@@ -38,12 +39,12 @@ module _ (chip : Chip) (queues : List ℤ) (a : stateAccepted chip ≡ true) (q 
       → (cond head (cond (stateAccepted chip) (wrote (writtenOf out x)) NotAccepted) (cond (queuesLent queues) (cond (stateAccepted chip) (wrote (writtenOf out y)) NotAccepted) QueueBuffer) ≡ Written (length (cond head x y)))
       × (cond head (cond (stateAccepted chip) (putOf out x) out) (cond (queuesLent queues) (cond (stateAccepted chip) (putOf out y) out) out) ≡ sets out 0 (cond head x y))
   by-kind true out x y h = rw a (written out x h)
-  by-kind false out x y h = rw (eq-eqb (length queues) 16384 q, a) (written out y h)
+  by-kind false out x y h = rw (eq-eqb (length queues) queueBuffer q, a) (written out y h)
 
   pub line-put : (k : ℕ) (out : List ℕ) → length (stateLine chip queues k) ≤ length out
       → (putLineAnswer chip queues k out ≡ Written (length (stateLine chip queues k))) × (putLineText chip queues k out ≡ sets out 0 (stateLine chip queues k))
   unfolding stateLine putLineAnswer putLineText writeHeadAnswer writeHeadText writeVoiceAnswer writeVoiceText
-  line-put k out h = by-kind (eqb k 0) out (headText (chip .version)) (lineOf chip queues (k - 1)) h
+  line-put k out h = by-kind (eqb k 0) out (headText (chip .version)) (lineOfVoice chip queues (k - 1)) h
 
 -- ---- texts without byte 10
 abbrev pub Goes : List ℕ → Type 0
@@ -79,8 +80,8 @@ render-goes (negsuc n) = both (45 ∷ []) (decimal (suc n)) (one 45 (omega arith
 part-goes : (k n : ℕ) → Goes (partText k n)
 unfolding partText fieldText
 part-goes k n =
-    let field = choice (isSample k) (render (sampleOf n)) (decimal n) (render-goes (sampleOf n)) (decimal-goes n) in
-    choice (eqb k 0) (cond (isSample k) (render (sampleOf n)) (decimal n)) (44 ∷ cond (isSample k) (render (sampleOf n)) (decimal n)) field (both (44 ∷ []) (cond (isSample k) (render (sampleOf n)) (decimal n)) (one 44 (omega arith)) field)
+    let field = choice (isSample k) (render (sampleOfNumber n)) (decimal n) (render-goes (sampleOfNumber n)) (decimal-goes n) in
+    choice (eqb k 0) (cond (isSample k) (render (sampleOfNumber n)) (decimal n)) (44 ∷ cond (isSample k) (render (sampleOfNumber n)) (decimal n)) field (both (44 ∷ []) (cond (isSample k) (render (sampleOfNumber n)) (decimal n)) (one 44 (omega arith)) field)
 
 parts-go : (k : ℕ) (ns : List ℕ) → Goes (partsText k ns)
 unfolding partsText
@@ -110,8 +111,8 @@ head-ended version = record {
       (both (44 ∷ []) ((48 + versionNumber version) ∷ []) (one 44 (omega arith)) (one (48 + versionNumber version) (omega arith))))));
 }
 
-voice-ended : (chip : Chip) (queues : List ℤ) (ch : ℕ) → ch ≤ 7 → Ended (lineOf chip queues ch)
-unfolding lineOf voiceText
+voice-ended : (chip : Chip) (queues : List ℤ) (ch : ℕ) → ch ≤ 7 → Ended (lineOfVoice chip queues ch)
+unfolding lineOfVoice voiceText
 voice-ended chip queues ch h = rw (le-leb ch 7 h) (line-ended _)
 
 -- ---- where a line stands, all of it is found
@@ -155,7 +156,7 @@ module _ (chip : Chip) (queues : List ℤ) (k : ℕ) where
   unfolding stateLine
   state-ended h = go (eqb k 0) refl
     where
-      go : (b : Bool) → eqb k 0 ≡ b → Ended (cond b (headText (chip .version)) (lineOf chip queues (k - 1)))
+      go : (b : Bool) → eqb k 0 ≡ b → Ended (cond b (headText (chip .version)) (lineOfVoice chip queues (k - 1)))
       go true e = head-ended (chip .version)
       go false e = voice-ended chip queues (k - 1) (omega arith)
 
@@ -163,7 +164,7 @@ module _ (chip : Chip) (queues : List ℤ) (k : ℕ) where
   unfolding stateLine soundLine headText
   no-sound rest = go (eqb k 0) refl
     where
-      go : (b : Bool) → eqb k 0 ≡ b → soundLine (getD (cond b (headText (chip .version)) (lineOf chip queues (k - 1)) ++ rest) 0 0) k ≡ false
+      go : (b : Bool) → eqb k 0 ≡ b → soundLine (getD (cond b (headText (chip .version)) (lineOfVoice chip queues (k - 1)) ++ rest) 0 0) k ≡ false
       go true e = rw e
       go false e = rw e
 
@@ -172,7 +173,7 @@ module _ (chip : Chip) (queues : List ℤ) (k : ℕ) where
 
 -- ---- the head and the voices by their lines
 module _ (p : Player) (queues : List ℤ) (text : List ℕ) where
-  pub take-head : takeLine p queues 0 text ≡ taken p (readHeadCalled (p .chip) text)
+  pub take-head : takeLine p queues 0 text ≡ takenBy p (readHeadCalled (p .chip) text)
   unfolding takeLine
   take-head = refl
 
@@ -180,7 +181,7 @@ module _ (p : Player) (queues : List ℤ) (text : List ℕ) where
   unfolding takeLineQueues
   take-head-queues = refl
 
-  pub take-voice : (i : ℕ) → takeLine p queues (suc i) text ≡ taken p (readVoiceCalled (p .chip) queues text)
+  pub take-voice : (i : ℕ) → takeLine p queues (suc i) text ≡ takenBy p (readVoiceCalled (p .chip) queues text)
   unfolding takeLine
   take-voice i = rw (ne-eqb (suc i) 0 (λ e. absurd (omega arith)))
 
@@ -193,8 +194,8 @@ module _ (chip : Chip) (queues : List ℤ) where
   unfolding stateLine
   head-line = refl
 
-  pub voice-line : (i : ℕ) → stateLine chip queues (suc i) ≡ lineOf chip queues i
+  pub voice-line : (i : ℕ) → stateLine chip queues (suc i) ≡ lineOfVoice chip queues i
   unfolding stateLine
   voice-line i =
-      ap (λ (b : Bool). cond b (headText (chip .version)) (lineOf chip queues (suc i - 1))) (ne-eqb (suc i) 0 (λ e. absurd (omega arith)))
-      ∙ ap (lineOf chip queues) (omega arith)
+      ap (λ (b : Bool). cond b (headText (chip .version)) (lineOfVoice chip queues (suc i - 1))) (ne-eqb (suc i) 0 (λ e. absurd (omega arith)))
+      ∙ ap (lineOfVoice chip queues) (omega arith)

@@ -4,19 +4,19 @@ use mathlib.Core.List.{List, [], _++_}
 use Prim.Native.Nat.{ℕ, zero, suc, _-_}
 use lib.Dec.{eqb}
 use lib.IntN.{ℤ}
-use Rattle.voice_line.specs.Head.{headText}
+use Rattle.session_lines.specs.Head.{headText}
 use Rattle.s3w2.specs.declared.Chip.{Chip}
 use Rattle.session.specs.declared.LineAnswer.{LineAnswer}
 use Rattle.session.specs.declared.LineCalled.{LineCalled}
 use Rattle.session.specs.Heads.{writeHeadAnswer, writeHeadText, readHeadCalled}
-use Rattle.session.specs.Voices.{lineOf, writeVoiceAnswer, writeVoiceText, readVoiceCalled, readVoiceQueues}
+use Rattle.session.specs.Voices.{lineOfVoice, writeVoiceAnswer, writeVoiceText, readVoiceCalled, readVoiceQueues}
 use Rattle.log_player.specs.declared.Player.{Player}
 use Rattle.log_player.specs.Worlds.{World, withChip}
 use Rattle.log_state.specs.declared.Taken.{Taken}
 
 -- line 0 is the head, line k that of voice k - 1
 unfoldable pub stateLine : Chip → List ℤ → ℕ → List ℕ
-stateLine chip queues k = cond (eqb k 0) (headText (chip .version)) (lineOf chip queues (k - 1))
+stateLine chip queues k = cond (eqb k 0) (headText (chip .version)) (lineOfVoice chip queues (k - 1))
 
 -- n lines, from line k on
 abbrev pub stateLines : Chip → List ℤ → ℕ → ℕ → List ℕ
@@ -37,11 +37,11 @@ putLineText chip queues k out = cond (eqb k 0) (writeHeadText chip out) (writeVo
 
 -- ---- a line read: the peaks stay
 
-abbrev pub taken : Player → LineCalled → Taken
-taken p called = record { player = withChip p (called .chip); answer = called .answer }
+abbrev pub takenBy : Player → LineCalled → Taken
+takenBy p called = record { player = withChip p (called .chip); answer = called .answer }
 
 unfoldable pub takeLine : Player → List ℤ → ℕ → List ℕ → Taken
-takeLine p queues k text = taken p (cond (eqb k 0) (readHeadCalled (p .chip) text) (readVoiceCalled (p .chip) queues text))
+takeLine p queues k text = takenBy p (cond (eqb k 0) (readHeadCalled (p .chip) text) (readVoiceCalled (p .chip) queues text))
 
 unfoldable pub takeLineQueues : Player → List ℤ → ℕ → List ℕ → List ℤ
 takeLineQueues p queues k text = cond (eqb k 0) queues (readVoiceQueues (p .chip) queues text)

@@ -1,6 +1,6 @@
 // One line of a state, written or read: line 0 is the head, line k that of voice k - 1.
 ghost use mathlib.Core.Path.{_≡_};
-ghost use Rattle.log_state.specs.Lines.{putLineAnswer, putLineText, taken as takenBy, takeLine, takeLineQueues};
+ghost use Rattle.log_state.specs.Lines.{putLineAnswer, putLineText, takenBy, takeLine, takeLineQueues};
 use crate::Taken;
 use log_player::Player;
 use session::LineAnswer;

@@ -7,6 +7,7 @@ use Prim.Native.Nat.{ℕ, _+_, _-_, _/_, _%_, _<_}
 use native.Mathlib.Omega.{arith}
 use lib.Dec.{ltb}
 use lib.ListN.{length, getD, set, replicate, length-map, length-set}
+use Rattle.sizes.specs.Sizes.{numChannels, registersEnd, wavetablesSize}
 use Rattle.num.proofs.Choice.{cond-by}
 use Rattle.num.proofs.Lists.{each-set}
 use Rattle.version.specs.Versions.{has3ws8pna, hasSampleControl, interpolates, wavetableMaskOf}
@@ -14,14 +15,14 @@ use Rattle.version.specs.declared.SguVersion.{SguVersion}
 use Rattle.registers.specs.Pcm.{readPcm}
 use Rattle.plain_chip.specs.Voices.{PlainVoice, plainRead}
 use Rattle.plain_chip.specs.Models.{Model}
-use Rattle.plain_chip.specs.Frames.{Played}
-use Rattle.plain_chip.specs.Chips.{Chip, withVoices, channelOf, offsetOf, isControl, voiceAt, changed, loadVoice, reset, setVersion, resetChannel, writeChannelControl, writeChannelPcmReg, writeChannelWavetable, afterReadChannel, readChannelControl, readChannelPcmReg, readChannelWavetable, wavetableLength, interpolatesAt, writeRegister, peekRegister, afterReadRegister, writePcmRam, generated, afterGenerated, clocked, afterClocked}
+use Rattle.plain_chip.specs.Frames.{ModelTurns}
+use Rattle.plain_chip.specs.Chips.{ModelChip, withVoices, channelOf, offsetOf, isControl, fieldsAt, changed, loadVoice, reset, setVersion, resetChannel, writeChannelControl, writeChannelPcmReg, writeChannelWavetable, afterReadChannel, readChannelControl, readChannelPcmReg, readChannelWavetable, wavetableLength, interpolatesAt, writeRegister, peekRegister, afterReadRegister, writePcmRam, generated, afterGenerated, clocked, afterClocked}
 use Rattle.plain_chip.specs.Good.{FitVoice, ChipOk}
 use Rattle.plain_chip.proofs.Lists.{every-adjust, every-map, map-adjust, map-all, bytes-replicate}
 use Rattle.plain_chip.proofs.Sims.{Sim}
 use Rattle.plain_chip.proofs.Frames.{playedSeen, voice-at, same-turned, keeps-turned, same-frames, keeps-frames, length-turned, length-frames}
 
-abbrev pub chipSeen : {A B : Type 0} → (A → B) → Chip A → Chip B
+abbrev pub chipSeen : {A B : Type 0} → (A → B) → ModelChip A → ModelChip B
 chipSeen g c = record { version = c .version; ram = c .ram; voices = map g (c .voices) }
 
 -- a choice between two, seen
@@ -30,15 +31,15 @@ picked f true x y p q = p
 picked f false x y p q = q
 
 module _ {A B : Type 0} {g : A → B} {P : SguVersion → List ℕ → A → Type 0} {a : Model A} {b : Model B} (sim : Sim g P a b) where
-  abbrev Seen : Chip A → Chip B
+  abbrev Seen : ModelChip A → ModelChip B
   Seen = chipSeen g
 
   -- ---- one voice changed
-  same-changed : (c : Chip A) (ch : ℕ) (f : A → A) (f′ : B → B) → ((x : A) → P (c .version) (c .ram) x → g (f x) ≡ f′ (g x)) → ChipOk P c → Seen (changed a c ch f) ≡ changed b (Seen c) ch f′
+  same-changed : (c : ModelChip A) (ch : ℕ) (f : A → A) (f′ : B → B) → ((x : A) → P (c .version) (c .ram) x → g (f x) ≡ f′ (g x)) → ChipOk P c → Seen (changed a c ch f) ≡ changed b (Seen c) ch f′
   same-changed c ch f f′ h ok =
       ap (λ (l : List B). withVoices (Seen c) l) (map-adjust g (P (c .version) (c .ram)) (a .absent) (b .absent) f f′ h (c .voices) ch (ok .voices))
 
-  ok-changed : (c : Chip A) (ch : ℕ) (f : A → A) → ((x : A) → P (c .version) (c .ram) x → P (c .version) (c .ram) (f x)) → ChipOk P c → ChipOk P (changed a c ch f)
+  ok-changed : (c : ModelChip A) (ch : ℕ) (f : A → A) → ((x : A) → P (c .version) (c .ram) x → P (c .version) (c .ram) (f x)) → ChipOk P c → ChipOk P (changed a c ch f)
   ok-changed c ch f h ok = record {
     voices = every-adjust (P (c .version) (c .ram)) (a .absent) f h (c .voices) ch (ok .voices);
     eight = length-set (c .voices) ch _ ∙ ok .eight;
@@ -46,7 +47,7 @@ module _ {A B : Type 0} {g : A → B} {P : SguVersion → List ℕ → A → Typ
   }
 
   -- ---- the whole chip
-  module _ (c : Chip A) (ok : ChipOk P c) where
+  module _ (c : ModelChip A) (ok : ChipOk P c) where
     pub same-reset : Seen (reset a c) ≡ reset b (Seen c)
     unfolding reset
     same-reset =
@@ -128,28 +129,28 @@ module _ {A B : Type 0} {g : A → B} {P : SguVersion → List ℕ → A → Typ
     pub same-write-register : (address value : ℕ) → Seen (writeRegister a address value c) ≡ writeRegister b address value (Seen c)
     unfolding writeRegister
     same-write-register address value =
-        picked Seen (ltb address 2048) _ _ (same-write-wave (address / 256) (address % 256) value)
-        (picked Seen (ltb address 2304) _ _
+        picked Seen (ltb address wavetablesSize) _ _ (same-write-wave (address / 256) (address % 256) value)
+        (picked Seen (ltb address registersEnd) _ _
         (picked Seen (isControl (offsetOf address)) _ _ (same-write-control (channelOf address) (offsetOf address) value) (same-write-pcm (channelOf address) (offsetOf address - 16) value))
         refl)
 
     pub ok-write-register : (address value : ℕ) → value < 256 → ChipOk P (writeRegister a address value c)
     unfolding writeRegister
     ok-write-register address value h =
-        cond-by (ChipOk P) (ltb address 2048) _ _ (λ e. ok-write-wave (address / 256) (address % 256) value h)
-        (λ e. cond-by (ChipOk P) (ltb address 2304) _ _
+        cond-by (ChipOk P) (ltb address wavetablesSize) _ _ (λ e. ok-write-wave (address / 256) (address % 256) value h)
+        (λ e. cond-by (ChipOk P) (ltb address registersEnd) _ _
         (λ f. cond-by (ChipOk P) (isControl (offsetOf address)) _ _ (λ i. ok-write-control (channelOf address) (offsetOf address) value h) (λ i. ok-write-pcm (channelOf address) (offsetOf address - 16) value h))
         (λ f. ok))
 
     pub same-after-register : (address : ℕ) → Seen (afterReadRegister a address c) ≡ afterReadRegister b address (Seen c)
     unfolding afterReadRegister
     same-after-register address =
-        picked Seen (ltb address 2048) c _ refl (picked Seen (ltb address 2304) _ c (same-after-read (channelOf address) (offsetOf address)) refl)
+        picked Seen (ltb address wavetablesSize) c _ refl (picked Seen (ltb address registersEnd) _ c (same-after-read (channelOf address) (offsetOf address)) refl)
 
     pub ok-after-register : (address : ℕ) → ChipOk P (afterReadRegister a address c)
     unfolding afterReadRegister
     ok-after-register address =
-        cond-by (ChipOk P) (ltb address 2048) _ _ (λ e. ok) (λ e. cond-by (ChipOk P) (ltb address 2304) _ _ (λ f. ok-after-read (channelOf address) (offsetOf address)) (λ f. ok))
+        cond-by (ChipOk P) (ltb address wavetablesSize) _ _ (λ e. ok) (λ e. cond-by (ChipOk P) (ltb address registersEnd) _ _ (λ f. ok-after-read (channelOf address) (offsetOf address)) (λ f. ok))
 
     -- ---- the RAM
     pub same-write-ram : (address value : ℕ) → Seen (writePcmRam a address value c) ≡ writePcmRam b address value (Seen c)
@@ -174,12 +175,12 @@ module _ {A B : Type 0} {g : A → B} {P : SguVersion → List ℕ → A → Typ
     -- ---- sound
     pub same-generated : (ch : ℕ) → playedSeen g (generated a ch c) ≡ generated b ch (Seen c)
     unfolding generated
-    same-generated ch = picked (playedSeen g) (ltb ch 8) _ _ (same-turned sim (c .version) (c .ram) (ok .bytes) ch 1 1 (c .voices) (ok .voices)) refl
+    same-generated ch = picked (playedSeen g) (ltb ch numChannels) _ _ (same-turned sim (c .version) (c .ram) (ok .bytes) ch 1 1 (c .voices) (ok .voices)) refl
 
     pub ok-generated : (ch : ℕ) → ChipOk P (afterGenerated a ch c)
     unfolding generated
     ok-generated ch =
-        cond-by (λ (r : Played A). ChipOk P (withVoices c (r .voices))) (ltb ch 8) _ _
+        cond-by (λ (r : ModelTurns A). ChipOk P (withVoices c (r .voices))) (ltb ch numChannels) _ _
         (λ e. record {
           voices = keeps-turned sim (c .version) (c .ram) (ok .bytes) ch 1 1 (c .voices) (ok .voices);
           eight = length-turned a (c .version) (c .ram) ch 1 1 (c .voices) ∙ ok .eight;
@@ -200,33 +201,33 @@ module _ {A B : Type 0} {g : A → B} {P : SguVersion → List ℕ → A → Typ
     }
 
   -- ---- answers
-  module _ (c : Chip A) where
-    pub same-voice : (ch : ℕ) → voiceAt a c ch ≡ voiceAt b (Seen c) ch
+  module _ (c : ModelChip A) where
+    pub same-voice : (ch : ℕ) → fieldsAt a c ch ≡ fieldsAt b (Seen c) ch
     same-voice ch = sim .session (getD (c .voices) ch (a .absent)) ∙ ap (b .session) (voice-at sim (c .voices) ch)
 
     pub same-read-control : (ch offset : ℕ) → readChannelControl a ch offset c ≡ readChannelControl b ch offset (Seen c)
     unfolding readChannelControl
-    same-read-control ch offset = ap (λ (v : PlainVoice). cond (ltb ch 8) (plainRead (c .version) offset v) 0) (same-voice ch)
+    same-read-control ch offset = ap (λ (v : PlainVoice). cond (ltb ch numChannels) (plainRead (c .version) offset v) 0) (same-voice ch)
 
     pub same-read-pcm : (ch offset : ℕ) → readChannelPcmReg a ch offset c ≡ readChannelPcmReg b ch offset (Seen c)
     unfolding readChannelPcmReg
-    same-read-pcm ch offset = ap (λ (v : PlainVoice). cond (ltb ch 8) (readPcm (v .pcm) offset) 0) (same-voice ch)
+    same-read-pcm ch offset = ap (λ (v : PlainVoice). cond (ltb ch numChannels) (readPcm (v .pcm) offset) 0) (same-voice ch)
 
     pub same-read-wave : (ch at : ℕ) → readChannelWavetable a ch at c ≡ readChannelWavetable b ch at (Seen c)
     unfolding readChannelWavetable
-    same-read-wave ch at = ap (λ (v : PlainVoice). cond (ltb ch 8) (getD (v .wavetable) at 0) 0) (same-voice ch)
+    same-read-wave ch at = ap (λ (v : PlainVoice). cond (ltb ch numChannels) (getD (v .wavetable) at 0) 0) (same-voice ch)
 
     pub same-wavetable-length : (ch : ℕ) → wavetableLength a ch c ≡ wavetableLength b ch (Seen c)
     unfolding wavetableLength
     same-wavetable-length ch =
-        ap (λ (v : PlainVoice). cond (ltb ch 8) (wavetableMaskOf (c .version) (v .pcm .«sample_control») + 1) (cond (hasSampleControl (c .version)) 0 256)) (same-voice ch)
+        ap (λ (v : PlainVoice). cond (ltb ch numChannels) (wavetableMaskOf (c .version) (v .pcm .«sample_control») + 1) (cond (hasSampleControl (c .version)) 0 256)) (same-voice ch)
 
     pub same-interpolates : (ch : ℕ) → interpolatesAt a ch c ≡ interpolatesAt b ch (Seen c)
     unfolding interpolatesAt
     same-interpolates ch =
-        ap (λ (v : PlainVoice). cond (ltb ch 8) (interpolates (c .version) (v .pcm .«sample_control»)) (cond (hasSampleControl (c .version)) false (has3ws8pna (c .version)))) (same-voice ch)
+        ap (λ (v : PlainVoice). cond (ltb ch numChannels) (interpolates (c .version) (v .pcm .«sample_control»)) (cond (hasSampleControl (c .version)) false (has3ws8pna (c .version)))) (same-voice ch)
 
     pub same-peek : (address : ℕ) → peekRegister a address c ≡ peekRegister b address (Seen c)
     unfolding peekRegister
     same-peek address =
-        ap₂ (λ (x y : ℕ). cond (ltb address 2048) x (cond (ltb address 2304) y 0)) (same-read-wave (address / 256) (address % 256)) (same-read-control (channelOf address) (offsetOf address))
+        ap₂ (λ (x y : ℕ). cond (ltb address wavetablesSize) x (cond (ltb address registersEnd) y 0)) (same-read-wave (address / 256) (address % 256)) (same-read-control (channelOf address) (offsetOf address))

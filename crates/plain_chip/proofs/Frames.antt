@@ -4,6 +4,7 @@ use mathlib.Core.Path.{_≡_, refl, sym, ap, ap₂, _∙_}
 use mathlib.Core.List.{List, [], _∷_, _++_, map}
 use Prim.Native.Nat.{ℕ, zero, suc, _+_, _%_}
 use lib.ListN.{length, getD, length-set, List·getD-map}
+use Rattle.sizes.specs.Sizes.{numChannels, ticksPerFrame}
 use Rattle.version.specs.declared.SguVersion.{SguVersion}
 use Rattle.registers.specs.Control.{targetChannel}
 use Rattle.ticks.specs.Again.{again}
@@ -14,7 +15,7 @@ use Rattle.plain_chip.specs.Lists.{Every}
 use Rattle.plain_chip.specs.Voices.{PlainVoice}
 use Rattle.plain_chip.specs.Ticks.{VoiceTick}
 use Rattle.plain_chip.specs.Models.{Model}
-use Rattle.plain_chip.specs.Frames.{Ticking, Played, ticked, oneTurn, followed, shown, seen, tickAt, turned, frame, frames}
+use Rattle.plain_chip.specs.Frames.{Ticking, ModelTurns, withTick, oneTurn, followed, shown, modulator, tickAt, turned, frame, frames}
 use Rattle.plain_chip.specs.Good.{Bytes}
 use Rattle.plain_chip.proofs.Lists.{every-get, every-set, map-set}
 use Rattle.plain_chip.proofs.Sims.{Sim, tickSeen}
@@ -33,19 +34,19 @@ module _ {A : Type 0} (m : Model A) (version : SguVersion) (ram : List ℕ) wher
   pub length-turned : (first n k : ℕ) (l : List A) → length (turned m version ram first n k l .voices) ≡ length l
   unfolding turned
   length-turned first n zero l = refl
-  length-turned first n (suc k) l = length-ticks n ((first + k) % 8) _ ∙ length-turned first n k l
+  length-turned first n (suc k) l = length-ticks n ((first + k) % numChannels) _ ∙ length-turned first n k l
 
   pub length-frames : (n : ℕ) (l : List A) → length (frames m version ram n l .voices) ≡ length l
   unfolding frames
   length-frames zero l = refl
-  length-frames (suc n) l = length-turned 0 4 8 (frames m version ram n l .voices) ∙ length-frames n l
+  length-frames (suc n) l = length-turned 0 ticksPerFrame numChannels (frames m version ram n l .voices) ∙ length-frames n l
 
 -- ---- one model seen as the other
 module _ {A B : Type 0} (g : A → B) where
   abbrev pub tickingSeen : Ticking A → Ticking B
   tickingSeen s = record { voices = map g (s .voices); sides = s .sides; values = s .values }
 
-  abbrev pub playedSeen : Played A → Played B
+  abbrev pub playedSeen : ModelTurns A → ModelTurns B
   playedSeen r = record { voices = map g (r .voices); stems = r .stems; sample = r .sample; values = r .values }
 
 module _ {A B : Type 0} {g : A → B} {P : SguVersion → List ℕ → A → Type 0} {a : Model A} {b : Model B} (sim : Sim g P a b) where
@@ -58,7 +59,7 @@ module _ {A B : Type 0} {g : A → B} {P : SguVersion → List ℕ → A → Typ
     same-shown x = ap (λ (v : PlainVoice). targetFrom (v .oscillator) version (v .pcm .«sample_control»)) (sim .session x)
 
     -- what a voice sees of the one that modulates it
-    pub same-seen : (l : List A) (ch : ℕ) → seen a version ram l ch ≡ seen b version ram (map g l) ch
+    pub same-seen : (l : List A) (ch : ℕ) → modulator a version ram l ch ≡ modulator b version ram (map g l) ch
     same-seen l ch =
         same-shown (getD l (targetChannel (a .session (getD l ch (a .absent)) .registers) ch) (a .absent))
         ∙ ap (shown b version ram) (voice-at l (targetChannel (a .session (getD l ch (a .absent)) .registers) ch))
@@ -70,17 +71,17 @@ module _ {A B : Type 0} {g : A → B} {P : SguVersion → List ℕ → A → Typ
       unfolding tickAt
       same-at ch s p =
           let l = s .voices in
-          let r : VoiceTick A = a .tick version ram (seen a version ram l ch) (s .sides) (getD l ch (a .absent)) in
-          let e : tickSeen g r ≡ b .tick version ram (seen b version ram (map g l) ch) (s .sides) (getD (map g l) ch (b .absent)) =
-          sim .tick version ram (seen a version ram l ch) (s .sides) (getD l ch (a .absent)) bytes (every-get (P version ram) (a .absent) l ch p (sim .absent-ok version ram))
+          let r : VoiceTick A = a .tick version ram (modulator a version ram l ch) (s .sides) (getD l ch (a .absent)) in
+          let e : tickSeen g r ≡ b .tick version ram (modulator b version ram (map g l) ch) (s .sides) (getD (map g l) ch (b .absent)) =
+          sim .tick version ram (modulator a version ram l ch) (s .sides) (getD l ch (a .absent)) bytes (every-get (P version ram) (a .absent) l ch p (sim .absent-ok version ram))
           ∙ ap₂ (λ (t : Target) (x : B). b .tick version ram t (s .sides) x) (same-seen l ch) (voice-at l ch) in
           ap (λ (l : List B). record { voices = l; sides = r .sides; values = s .values ++ (r .value ∷ []) }) (map-set g (r .voice) l ch)
-          ∙ ap (ticked ch (tickingSeen g s)) e
+          ∙ ap (withTick ch (tickingSeen g s)) e
 
       keeps-at : (ch : ℕ) (s : Ticking A) → Every (P version ram) (s .voices) → Every (P version ram) (tickAt a version ram ch s .voices)
       unfolding tickAt
       keeps-at ch s p =
-          every-set (P version ram) _ (sim .tick-ok version ram (seen a version ram (s .voices) ch) (s .sides) (getD (s .voices) ch (a .absent)) bytes (every-get (P version ram) (a .absent) (s .voices) ch p (sim .absent-ok version ram)))
+          every-set (P version ram) _ (sim .tick-ok version ram (modulator a version ram (s .voices) ch) (s .sides) (getD (s .voices) ch (a .absent)) bytes (every-get (P version ram) (a .absent) (s .voices) ch p (sim .absent-ok version ram)))
           (s .voices) ch p
 
       keeps-ticks : (n ch : ℕ) (s : Ticking A) → Every (P version ram) (s .voices) → Every (P version ram) (again n (tickAt a version ram ch) s .voices)
@@ -97,27 +98,27 @@ module _ {A B : Type 0} {g : A → B} {P : SguVersion → List ℕ → A → Typ
       pub keeps-turned : (first n k : ℕ) (l : List A) → Every (P version ram) l → Every (P version ram) (turned a version ram first n k l .voices)
       unfolding turned
       keeps-turned first n zero l p = p
-      keeps-turned first n (suc k) l p = keeps-ticks n ((first + k) % 8) _ (keeps-turned first n k l p)
+      keeps-turned first n (suc k) l p = keeps-ticks n ((first + k) % numChannels) _ (keeps-turned first n k l p)
 
       pub same-turned : (first n k : ℕ) (l : List A) → Every (P version ram) l → playedSeen g (turned a version ram first n k l) ≡ turned b version ram first n k (map g l)
       unfolding turned
       same-turned first n zero l p = refl
       same-turned first n (suc k) l p =
-          let r : Played A = turned a version ram first n k l in
+          let r : ModelTurns A = turned a version ram first n k l in
           let s : Ticking A = record { voices = r .voices; sides = silence; values = [] } in
-          ap (oneTurn (playedSeen g r)) (same-ticks n ((first + k) % 8) s (keeps-turned first n k l p))
-          ∙ ap (λ (x : Played B). oneTurn x (again n (tickAt b version ram ((first + k) % 8)) (record { voices = x .voices; sides = silence; values = [] }))) (same-turned first n k l p)
+          ap (oneTurn (playedSeen g r)) (same-ticks n ((first + k) % numChannels) s (keeps-turned first n k l p))
+          ∙ ap (λ (x : ModelTurns B). oneTurn x (again n (tickAt b version ram ((first + k) % numChannels)) (record { voices = x .voices; sides = silence; values = [] }))) (same-turned first n k l p)
 
       -- ---- frames
       pub keeps-frames : (n : ℕ) (l : List A) → Every (P version ram) l → Every (P version ram) (frames a version ram n l .voices)
       unfolding frames
       keeps-frames zero l p = p
-      keeps-frames (suc n) l p = keeps-turned 0 4 8 (frames a version ram n l .voices) (keeps-frames n l p)
+      keeps-frames (suc n) l p = keeps-turned 0 ticksPerFrame numChannels (frames a version ram n l .voices) (keeps-frames n l p)
 
       pub same-frames : (n : ℕ) (l : List A) → Every (P version ram) l → playedSeen g (frames a version ram n l) ≡ frames b version ram n (map g l)
       unfolding frames
       same-frames zero l p = refl
       same-frames (suc n) l p =
-          let r : Played A = frames a version ram n l in
-          ap (followed (playedSeen g r)) (same-turned 0 4 8 (r .voices) (keeps-frames n l p))
-          ∙ ap (λ (x : Played B). followed x (frame b version ram (x .voices))) (same-frames n l p)
+          let r : ModelTurns A = frames a version ram n l in
+          ap (followed (playedSeen g r)) (same-turned 0 ticksPerFrame numChannels (r .voices) (keeps-frames n l p))
+          ∙ ap (λ (x : ModelTurns B). followed x (frame b version ram (x .voices))) (same-frames n l p)

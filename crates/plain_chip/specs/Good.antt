@@ -6,13 +6,14 @@ use Prim.Native.Nat.{ℕ, _≤_, _<_}
 use lib.ListN.{length, getD}
 use mir.Syntax.{w16}
 use mir.Val.{SFits}
+use Rattle.sizes.specs.Sizes.{fifoCapacity, numChannels}
 use Rattle.version.specs.declared.SguVersion.{SguVersion}
 use Rattle.registers.specs.Control.{AcceptedRegisters, FitRegisters}
 use Rattle.registers.specs.Pcm.{AcceptedPcm, FitPcm}
 use Rattle.registers.specs.Queue.{FitEntries}
 use Rattle.ticks.specs.Oscillators.{acceptsOscillator, FitOscillator}
 use Rattle.plain_chip.specs.Voices.{PlainVoice}
-use Rattle.plain_chip.specs.Chips.{Chip}
+use Rattle.plain_chip.specs.Chips.{ModelChip}
 use Rattle.plain_chip.specs.Lists.{Every}
 
 pub record Bytes (l : List ℕ) : Type 0 where
@@ -26,17 +27,17 @@ pub record FitVoice (version : SguVersion) (v : PlainVoice) : Type 0 where
   pub fitRegisters : FitRegisters (v .registers)
   pub fitPcm : FitPcm (v .pcm)
   pub fitOscillator : FitOscillator (v .oscillator)
-  pub full : length (v .line .line) ≤ 2048
-  pub samples : FitEntries (v .line .line)
-  pub held : SFits w16 (v .line .held)
-  pub frames : v .line .hold ≤ 65535
-  pub tick : v .line .sub ≤ 3
-  pub latch : v .line .latch < 256
+  pub full : length (v .queue .samples) ≤ fifoCapacity
+  pub samples : FitEntries (v .queue .samples)
+  pub held : SFits w16 (v .queue .held)
+  pub frames : v .queue .hold ≤ 65535
+  pub tick : v .queue .sub ≤ 3
+  pub latch : v .queue .latch < 256
   pub table : length (v .wavetable) ≡ 256
   pub bytes : Bytes (v .wavetable)
 
 -- eight good voices over a RAM of bytes
-pub record ChipOk {A : Type 0} (P : SguVersion → List ℕ → A → Type 0) (c : Chip A) : Type 0 where
+pub record ChipOk {A : Type 0} (P : SguVersion → List ℕ → A → Type 0) (c : ModelChip A) : Type 0 where
   pub voices : Every (P (c .version) (c .ram)) (c .voices)
-  pub eight : length (c .voices) ≡ 8
+  pub eight : length (c .voices) ≡ numChannels
   pub bytes : Bytes (c .ram)

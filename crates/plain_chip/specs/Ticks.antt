@@ -9,7 +9,7 @@ use Rattle.tone.specs.Pcm.{loops}
 use Rattle.version.specs.Versions.{has34si22, interpolates}
 use Rattle.version.specs.declared.SguVersion.{SguVersion}
 use Rattle.registers.specs.Pcm.{setActive}
-use Rattle.registers.specs.Line.{lineTicked}
+use Rattle.registers.specs.PlainQueue.{plainTicked}
 use Rattle.stream.specs.Plain.{plainTick}
 use Rattle.stream.specs.declared.Play.{Play}
 use Rattle.ticks.specs.Oscillators.{setPhase, setLast}
@@ -21,7 +21,7 @@ use Rattle.ticks.specs.declared.Sides.{Sides}
 use Rattle.voice.specs.Kinds.{soundingOf}
 use Rattle.voice.specs.declared.Kind.{Kind}
 use Rattle.voice.specs.declared.Kind.the-variants.{Silent, Oscillator, Sqv4, FifoDac}
-use Rattle.plain_chip.specs.Voices.{PlainVoice, withPcm, withOscillator, withLine}
+use Rattle.plain_chip.specs.Voices.{PlainVoice, withPcm, withOscillator, withPlainQueue}
 
 -- what a tick leaves: the voice, the sides with its sample in them, and its value ahead of the volume: an amplitude with 8 fraction bits, the
 -- sample that a queue holds, or 0 of a silent voice
@@ -67,9 +67,9 @@ module _ (version : SguVersion) (ram : List ℕ) (t : Target) (sides : Sides) wh
   -- a queue: the volume does not apply
   unfoldable pub plainFifo : PlainVoice → VoiceTick PlainVoice
   plainFifo v =
-      let l = lineTicked (v .line) (v .registers .frequency) in
+      let l = plainTicked (v .queue) (v .registers .frequency) in
       record {
-        voice = withLine (withOscillator v (setLast (v .oscillator) (lastSample (l .held)))) l;
+        voice = withPlainQueue (withOscillator v (setLast (v .oscillator) (lastSample (l .held)))) l;
         sides = heard sides (l .held) (v .registers .panpot);
         value = l .held;
       }

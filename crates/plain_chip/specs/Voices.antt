@@ -12,7 +12,7 @@ use Rattle.version.specs.declared.SguVersion.{SguVersion}
 use Rattle.registers.specs.Waveforms.{waveformFrom, under}
 use Rattle.registers.specs.Control.{defaultRegisters, setWaveform, writeRegisters, readRegisters}
 use Rattle.registers.specs.Pcm.{defaultPcm, setSampleControl, writePcm, readPcm}
-use Rattle.registers.specs.Line.{Line, linePushed}
+use Rattle.registers.specs.PlainQueue.{PlainQueue, plainPushed}
 use Rattle.registers.specs.declared.Registers.{Registers}
 use Rattle.registers.specs.declared.PcmRegisters.{PcmRegisters}
 use Rattle.registers.specs.declared.WaveformType.{WaveformType}
@@ -24,48 +24,48 @@ pub record PlainVoice : Type 0 where
   pub registers : Registers
   pub pcm : PcmRegisters
   pub oscillator : Oscillator
-  pub line : Line
+  pub queue : PlainQueue
   pub wavetable : List ℕ
 
 -- ---- a fresh voice
 abbrev pub freshWavetable : List ℕ
 freshWavetable = replicate 256 128
 
-abbrev pub emptyLine : Line
-emptyLine = record { line = []; held = pos 0; hold = 0; sub = 0; latch = 0 }
+abbrev pub emptyQueue : PlainQueue
+emptyQueue = record { samples = []; held = pos 0; hold = 0; sub = 0; latch = 0 }
 
 abbrev pub freshVoice : PlainVoice
-freshVoice = record { registers = defaultRegisters; pcm = defaultPcm; oscillator = defaultOscillator; line = emptyLine; wavetable = freshWavetable }
+freshVoice = record { registers = defaultRegisters; pcm = defaultPcm; oscillator = defaultOscillator; queue = emptyQueue; wavetable = freshWavetable }
 
 -- ---- one part set, the others as they were
 abbrev pub withRegisters : PlainVoice → Registers → PlainVoice
-withRegisters v x = record { registers = x; pcm = v .pcm; oscillator = v .oscillator; line = v .line; wavetable = v .wavetable }
+withRegisters v x = record { registers = x; pcm = v .pcm; oscillator = v .oscillator; queue = v .queue; wavetable = v .wavetable }
 
 abbrev pub withPcm : PlainVoice → PcmRegisters → PlainVoice
-withPcm v x = record { registers = v .registers; pcm = x; oscillator = v .oscillator; line = v .line; wavetable = v .wavetable }
+withPcm v x = record { registers = v .registers; pcm = x; oscillator = v .oscillator; queue = v .queue; wavetable = v .wavetable }
 
 abbrev pub withOscillator : PlainVoice → Oscillator → PlainVoice
-withOscillator v x = record { registers = v .registers; pcm = v .pcm; oscillator = x; line = v .line; wavetable = v .wavetable }
+withOscillator v x = record { registers = v .registers; pcm = v .pcm; oscillator = x; queue = v .queue; wavetable = v .wavetable }
 
-abbrev pub withLine : PlainVoice → Line → PlainVoice
-withLine v x = record { registers = v .registers; pcm = v .pcm; oscillator = v .oscillator; line = x; wavetable = v .wavetable }
+abbrev pub withPlainQueue : PlainVoice → PlainQueue → PlainVoice
+withPlainQueue v x = record { registers = v .registers; pcm = v .pcm; oscillator = v .oscillator; queue = x; wavetable = v .wavetable }
 
 abbrev pub withWavetable : PlainVoice → List ℕ → PlainVoice
-withWavetable v x = record { registers = v .registers; pcm = v .pcm; oscillator = v .oscillator; line = v .line; wavetable = x }
+withWavetable v x = record { registers = v .registers; pcm = v .pcm; oscillator = v .oscillator; queue = v .queue; wavetable = x }
 
 abbrev pub withWaveform : PlainVoice → WaveformType → PlainVoice
 withWaveform v x = withRegisters v (setWaveform (v .registers) x)
 
 abbrev pub withLatch : PlainVoice → ℕ → PlainVoice
-withLatch v x = withLine v (record { line = v .line .line; held = v .line .held; hold = v .line .hold; sub = v .line .sub; latch = x })
+withLatch v x = withPlainQueue v (record { samples = v .queue .samples; held = v .queue .held; hold = v .queue .hold; sub = v .queue .sub; latch = x })
 
 -- ---- a register is written: waveform (2), phase reset (10), queue (12 and 13), sample control (26), the others
 unfoldable pub plainWriteControl : SguVersion → ℕ → ℕ → PlainVoice → PlainVoice
 plainWriteControl version offset value v =
     cond (eqb offset 2) (withWaveform v (under (waveformFrom value) version))
-    (cond (eqb offset 10) (withLine (withOscillator v (oscillatorRestarted (v .oscillator))) emptyLine)
+    (cond (eqb offset 10) (withPlainQueue (withOscillator v (oscillatorRestarted (v .oscillator))) emptyQueue)
     (cond (eqb offset 12) (cond (has3ws8pna version) (withLatch v value) v)
-    (cond (eqb offset 13) (cond (has3ws8pna version) (withLine v (linePushed (v .line) (sampleOf (v .line .latch) value))) v)
+    (cond (eqb offset 13) (cond (has3ws8pna version) (withPlainQueue v (plainPushed (v .queue) (sampleOf (v .queue .latch) value))) v)
     (cond (eqb offset 26) (cond (hasSampleControl version) (withPcm v (setSampleControl (v .pcm) (value % 8))) v)
     (withRegisters v (writeRegisters (v .registers) offset value))))))
 
@@ -83,7 +83,7 @@ countByte offset count = cond (eqb offset 14) (byteOf 1 count) (byteOf 0 count)
 unfoldable pub plainRead : SguVersion → ℕ → PlainVoice → ℕ
 plainRead version offset v =
     cond (leb offset 13) (readRegisters (v .registers) offset)
-    (cond (leb offset 15) (cond (has3ws8pna version) (countByte offset (length (v .line .line))) 0)
+    (cond (leb offset 15) (cond (has3ws8pna version) (countByte offset (length (v .queue .samples))) 0)
     (cond (leb offset 25) (readPcm (v .pcm) (offset - 16))
     (cond (eqb offset 26) (cond (hasSampleControl version) (v .pcm .«sample_control») 0)
     0)))
@@ -94,4 +94,4 @@ plainAfterRead offset v = cond (eqb offset 10) (withOscillator v (setPhase (v .o
 
 -- ---- another version: a FIFO voice becomes a wavetable voice where there is none; the queue is emptied
 unfoldable pub plainSetVersion : SguVersion → PlainVoice → PlainVoice
-plainSetVersion version v = withLine (withWaveform v (under (v .registers .«waveform_type») version)) emptyLine
+plainSetVersion version v = withPlainQueue (withWaveform v (under (v .registers .«waveform_type») version)) emptyQueue

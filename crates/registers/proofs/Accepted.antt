@@ -7,6 +7,7 @@ use lib.Dec.{eqb, leb, ltb}
 use lib.IntN.{ℤ}
 use mathlib.Core.List.{List}
 use borrow.Author.Tests.{leb-true, ltb-true, eqb-true, eq-eqb, le-leb, lt-ltb, leb-false}
+use Rattle.sizes.specs.Sizes.{fifoCapacity}
 use Rattle.num.specs.Bits.{withByte}
 use Rattle.num.proofs.Choice.{cond-by, both, together, never}
 use Rattle.num.proofs.Bits.{with-field-lt}
@@ -141,8 +142,8 @@ module _ (f : Fifo) where
   pub accepted-fifo : acceptsFifo f ≡ true → AcceptedFifo f
   unfolding acceptsFifo
   accepted-fifo e =
-      let a = both (leb (f .count) 2048) _ e in
-      let b = both (ltb (f .head) 2048) _ (a .1) in
+      let a = both (leb (f .count) fifoCapacity) _ e in
+      let b = both (ltb (f .head) fifoCapacity) _ (a .1) in
       let d = both (leb (f .sub) 3) _ (b .1) in
       record { full = leb-true _ _ (a .0); first = ltb-true _ _ (b .0); tick = leb-true _ _ (d .0); frames = leb-true _ _ (d .1) }
 
@@ -156,8 +157,8 @@ module _ (f : Fifo) where
   pub push-accepted : AcceptedFifo f → AcceptedFifo (pushed f)
   unfolding pushed
   push-accepted a =
-      cond-by AcceptedFifo (ltb (f .count) 2048) _ _
-      (λ e. record { full = omega (arith, ltb-true (f .count) 2048 e); first = a .first; tick = a .tick; frames = a .frames })
+      cond-by AcceptedFifo (ltb (f .count) fifoCapacity) _ _
+      (λ e. record { full = omega (arith, ltb-true (f .count) fifoCapacity e); first = a .first; tick = a .tick; frames = a .frames })
       (λ e. a)
 
   module _ (q : List ℤ) (frequency : ℕ) (h : frequency < 2 ^ 16) where

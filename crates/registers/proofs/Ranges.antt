@@ -10,6 +10,7 @@ use lib.IntN.{ℤ, pos}
 use mir.Syntax.{w16}
 use mir.Val.{SFits}
 use borrow.Author.Tests.{leb-false, eqb-false}
+use Rattle.sizes.specs.Sizes.{fifoCapacity}
 use Rattle.num.specs.Bits.{byteOf, withByte}
 use Rattle.num.proofs.Choice.{cond-by}
 use Rattle.num.proofs.Bits.{with-field-lt}
@@ -136,12 +137,12 @@ module _ (f : Fifo) (q : List ℤ) where
   pub push-entries-fit : (x : ℤ) → SFits w16 x → FitEntries q → FitEntries (pushedEntries f q x)
   unfolding pushedEntries
   push-entries-fit x h e =
-      cond-by FitEntries (ltb (f .count) 2048) _ _ (λ t. record { each = each-set (SFits w16) (pos 0) x h q (e .each) (place f) }) (λ t. e)
+      cond-by FitEntries (ltb (f .count) fifoCapacity) _ _ (λ t. record { each = each-set (SFits w16) (pos 0) x h q (e .each) (place f) }) (λ t. e)
 
   module _ (frequency : ℕ) (e : FitEntries q) where
     pub pop-fits : FitFifo f → FitFifo (popped f q frequency)
     unfolding popped
-    pop-fits g = cond-by FitFifo (eqb (f .count) 0) _ _ (λ t. g) (λ t. record { sample = e .each (f .head % 2048); byte = g .byte })
+    pop-fits g = cond-by FitFifo (eqb (f .count) 0) _ _ (λ t. g) (λ t. record { sample = e .each (f .head % fifoCapacity); byte = g .byte })
 
     pub advance-fits : FitFifo f → FitFifo (advanced f q frequency)
     unfolding advanced
@@ -155,4 +156,4 @@ module _ (f : Fifo) (q : List ℤ) where
 
   pub pushed-fits : FitFifo f → FitFifo (pushed f)
   unfolding pushed
-  pushed-fits g = cond-by FitFifo (ltb (f .count) 2048) _ _ (λ t. record { sample = g .sample; byte = g .byte }) (λ t. g)
+  pushed-fits g = cond-by FitFifo (ltb (f .count) fifoCapacity) _ _ (λ t. record { sample = g .sample; byte = g .byte }) (λ t. g)

@@ -2,4 +2,4 @@ pub mod Waveforms
 pub mod Control
 pub mod Pcm
 pub mod Queue
-pub mod Line
+pub mod PlainQueue

@@ -7,10 +7,8 @@ use lib.IntN.{ℤ, pos}
 use lib.ListN.{set, getD}
 use mir.Syntax.{w16}
 use mir.Val.{SFits}
+use Rattle.sizes.specs.Sizes.{fifoCapacity}
 use Rattle.registers.specs.declared.Fifo.{Fifo}
-
-abbrev pub capacity : ℕ
-capacity = 2048
 
 abbrev pub defaultFifo : Fifo
 defaultFifo = record { head = 0; count = 0; held = pos 0; hold = 0; sub = 0; latch = 0 }
@@ -32,21 +30,21 @@ setLatch f x = record { head = f .head; count = f .count; held = f .held; hold =
 -- ---- push: the entry after the last takes the sample, unless the queue is full
 
 abbrev pub place : Fifo → ℕ
-place f = (f .head + f .count) % capacity
+place f = (f .head + f .count) % fifoCapacity
 
 unfoldable pub pushed : Fifo → Fifo
-pushed f = cond (ltb (f .count) capacity) (setCount f (f .count + 1)) f
+pushed f = cond (ltb (f .count) fifoCapacity) (setCount f (f .count + 1)) f
 
 unfoldable pub pushedEntries : Fifo → List ℤ → ℤ → List ℤ
-pushedEntries f q sample = cond (ltb (f .count) capacity) (set q (place f) sample) q
+pushedEntries f q sample = cond (ltb (f .count) fifoCapacity) (set q (place f) sample) q
 
 -- ---- pop: the first is taken and held, if there is one
 
-abbrev pub taken : Fifo → List ℤ → ℕ → Fifo
-taken f q frequency = record { head = (f .head + 1) % capacity; count = f .count - 1; held = getD q (f .head % capacity) (pos 0); hold = frequency; sub = f .sub; latch = f .latch }
+abbrev pub firstTaken : Fifo → List ℤ → ℕ → Fifo
+firstTaken f q frequency = record { head = (f .head + 1) % fifoCapacity; count = f .count - 1; held = getD q (f .head % fifoCapacity) (pos 0); hold = frequency; sub = f .sub; latch = f .latch }
 
 unfoldable pub popped : Fifo → List ℤ → ℕ → Fifo
-popped f q frequency = cond (eqb (f .count) 0) f (taken f q frequency)
+popped f q frequency = cond (eqb (f .count) 0) f (firstTaken f q frequency)
 
 -- the first tick of a frame: a new sample once the held one has lasted
 unfoldable pub advanced : Fifo → List ℤ → ℕ → Fifo
@@ -59,15 +57,15 @@ ticked f q frequency = setSub (cond (eqb (f .sub) 0) (advanced f q frequency) f)
 -- ---- the queue as a list, oldest first: n entries of the ring from a place on
 unfoldable pub queued : List ℤ → ℕ → ℕ → List ℤ
 queued q head zero = []
-queued q head (suc n) = getD q (head % capacity) (pos 0) ∷ queued q (head + 1) n
+queued q head (suc n) = getD q (head % fifoCapacity) (pos 0) ∷ queued q (head + 1) n
 
 -- ---- accepted values
 unfoldable pub acceptsFifo : Fifo → Bool
-acceptsFifo f = leb (f .count) capacity && (ltb (f .head) capacity && (leb (f .sub) 3 && leb (f .hold) 65535))
+acceptsFifo f = leb (f .count) fifoCapacity && (ltb (f .head) fifoCapacity && (leb (f .sub) 3 && leb (f .hold) 65535))
 
 pub record AcceptedFifo (f : Fifo) : Type 0 where
-  pub full : f .count ≤ 2048
-  pub first : f .head < 2048
+  pub full : f .count ≤ fifoCapacity
+  pub first : f .head < fifoCapacity
   pub tick : f .sub ≤ 3
   pub frames : f .hold ≤ 65535
 

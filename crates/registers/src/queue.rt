@@ -2,6 +2,7 @@
 ghost use mathlib.Core.Path.{_≡_};
 ghost use Rattle.registers.specs.Queue.{defaultFifo, pushed, pushedEntries, popped, advanced, ticked, acceptsFifo};
 use crate::Fifo;
+use sizes::FIFO_CAPACITY;
 
 impl Fifo {
     pub fn default() -> Fifo
@@ -22,7 +23,7 @@ impl Fifo {
         ensures { λ r. ⌜ (r ≡ pushed self) × (now (queue .exit) ≡ pushedEntries self (now (queue .entry)) sample) ⌝ }
     {
         let count = self.count;
-        if count < 2048 {
+        if count < FIFO_CAPACITY {
             let at = ((self.head & 2047) + count) & 2047;
             if at < queue.len() {
                 queue[at] = sample;
@@ -76,10 +77,10 @@ impl Fifo {
     pub fn accepts(self) -> bool
         ensures { λ r. ⌜ r ≡ acceptsFifo self ⌝ }
     {
-        if 2048 < self.count {
+        if FIFO_CAPACITY < self.count {
             return false;
         }
-        if 2048 <= self.head {
+        if FIFO_CAPACITY <= self.head {
             return false;
         }
         if 3 < self.sub {

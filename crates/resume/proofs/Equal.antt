@@ -3,6 +3,7 @@ use mathlib.Core.Path.{_≡_, sym, ap, _∙_, subst}
 use mathlib.Core.List.{List}
 use native.Mathlib.Omega.{arith}
 use lib.ListN.{length, length-map}
+use Rattle.sizes.specs.Sizes.{numChannels}
 use Rattle.version.specs.declared.SguVersion.{SguVersion}
 use Rattle.plain_chip.specs.Lists.{Every}
 use Rattle.plain_chip.specs.Voices.{PlainVoice}
@@ -16,17 +17,17 @@ use Rattle.call_lists.specs.Seen.{Seen, linesFrom}
 use Rattle.call_lists.proofs.Equal.{same-versions, same-lines}
 use Rattle.session_texts.specs.Session.{session}
 use Rattle.session_texts.proofs.Read.{session-is-ok}
-use Rattle.call_ties.specs.Ties.{Machine}
-use Rattle.resume.specs.Stops.{seen, worldOf, SameTexts, SameFields}
+use Rattle.chip_calls.specs.Ties.{Machine}
+use Rattle.resume.specs.Stops.{seen, slotChipIn, SameTexts, SameFields}
 use Rattle.resume.proofs.Steps.{HeldMachine, seen-same}
 
-fields-fit : (m : Machine) → HeldMachine m → Every (FitVoice (m .chip .version)) (plain (worldOf m) .voices)
-fields-fit m h = every-map (SlotOk (m .chip .version) (m .ram)) (FitVoice (m .chip .version)) plainOf (λ s p. fit-plain (m .chip .version) (m .ram) s p) (worldOf m .voices) (h .good .voices)
+fields-fit : (m : Machine) → HeldMachine m → Every (FitVoice (m .chip .version)) (plain (slotChipIn m) .voices)
+fields-fit m h = every-map (SlotOk (m .chip .version) (m .ram)) (FitVoice (m .chip .version)) plainOf (λ s p. fit-plain (m .chip .version) (m .ram) s p) (slotChipIn m .voices) (h .good .voices)
 
-eight : (m : Machine) → HeldMachine m → length (plain (worldOf m) .voices) ≡ 8
-eight m h = length-map (worldOf m .voices) plainOf ∙ h .good .eight
+eight : (m : Machine) → HeldMachine m → length (plain (slotChipIn m) .voices) ≡ numChannels
+eight m h = length-map (slotChipIn m .voices) plainOf ∙ h .good .eight
 
-lines-of : (m : Machine) → HeldMachine m → seen m .lines ≡ linesFrom session 0 (plain (worldOf m) .voices)
+lines-of : (m : Machine) → HeldMachine m → seen m .lines ≡ linesFrom session 0 (plain (slotChipIn m) .voices)
 lines-of m h = ap (λ (s : Seen). s .lines) (seen-same m h)
 
 module _ (one two : Machine) (g : HeldMachine one) (h : HeldMachine two) where
@@ -36,8 +37,8 @@ module _ (one two : Machine) (g : HeldMachine one) (h : HeldMachine two) where
       record {
         version = e;
         voices =
-            same-lines session session-is-ok (one .chip .version) 0 (plain (worldOf one) .voices) (plain (worldOf two) .voices) (eight one g ∙ sym (eight two h)) (omega (arith, eight one g)) (fields-fit one g)
-            (subst (λ (v : SguVersion). Every (FitVoice v) (plain (worldOf two) .voices)) (sym e) (fields-fit two h))
+            same-lines session session-is-ok (one .chip .version) 0 (plain (slotChipIn one) .voices) (plain (slotChipIn two) .voices) (eight one g ∙ sym (eight two h)) (omega (arith, eight one g)) (fields-fit one g)
+            (subst (λ (v : SguVersion). Every (FitVoice v) (plain (slotChipIn two) .voices)) (sym e) (fields-fit two h))
             (sym (lines-of one g) ∙ t .lines ∙ lines-of two h);
       }
 

@@ -6,9 +6,9 @@ use Prim.Native.Nat.{ℕ}
 use lib.ListN.{length}
 use Rattle.tone.specs.Pcm.{isRamLength}
 use Rattle.version.specs.declared.SguVersion.{SguVersion}
-use Rattle.voice_line.specs.Head.{headText}
-use Rattle.voice_line.specs.Head as heads
-use Rattle.voice_line.proofs.Heads.{head-back}
+use Rattle.session_lines.specs.Head.{headText}
+use Rattle.session_lines.specs.Head as heads
+use Rattle.session_lines.proofs.Heads.{head-back}
 use Rattle.voices.specs.Core.{setCoreVersion}
 use Rattle.voices.proofs.Voices.{version-changed}
 use Rattle.s3w2.specs.declared.Chip.{Chip}
@@ -21,10 +21,10 @@ use Rattle.session.specs.declared.LineCalled.{LineCalled}
 use Rattle.session.specs.declared.LineAnswer.the-variants as lines
 use Rattle.session.specs.Answers as answers
 use Rattle.session.specs.Heads.{headCalled, readHeadCalled}
-use Rattle.slots.specs.Models.{slots, World}
-use Rattle.slots.specs.Good.{WorldOk}
+use Rattle.slots.specs.Models.{slots, SlotChip}
+use Rattle.slots.specs.Good.{SlotChipOk}
 use Rattle.plain_chip.specs.Chips as chips
-use Rattle.chip_slots.proofs.Stores.{world-version}
+use Rattle.chip_as_slots.proofs.Stores.{world-version}
 use Rattle.call_lists.specs.Runs.{after}
 use Rattle.call_lists.specs.Calls.{readHead, readVoice, run}
 use Rattle.call_lists.specs.Seen as calls
@@ -33,18 +33,18 @@ use Rattle.call_lists.specs.Second.{Accepted}
 use Rattle.call_lists.proofs.Resumes.{fit-lines, head-read, headed-good}
 use Rattle.session_texts.specs.Session.{session}
 use Rattle.session_texts.proofs.Read.{session-is-ok}
-use Rattle.call_ties.specs.Ties.{Machine}
-use Rattle.call_ties.specs.Code.{code}
-use Rattle.call_ties.proofs.Accepting.{accepts-largest, state-none}
-use Rattle.call_ties.proofs.Made.{accepted-world}
-use Rattle.resume.specs.Stops.{seen, resumed, Second, worldOf}
+use Rattle.chip_calls.specs.Ties.{Machine}
+use Rattle.chip_calls.specs.Code.{code}
+use Rattle.chip_calls.proofs.Accepting.{accepts-largest, state-none}
+use Rattle.chip_calls.proofs.Made.{accepted-world}
+use Rattle.resume.specs.Stops.{seen, resumed, Second, slotChipIn}
 use Rattle.resume.proofs.Steps.{HeldMachine, held-after, world-after, seen-same}
 
 module _ (first second : Machine) (h : HeldMachine first) (s : Second first second) where
   abbrev version : SguVersion
   version = first .chip .version
 
-  pub accepted : Accepted (worldOf second)
+  pub accepted : Accepted (slotChipIn second)
   accepted = accepted-world (second .chip .version) (second .chip .core) (second .ram) (second .queues) (s .accepted) (s .long) (s .typed)
 
   allowed : isRamLength (length (second .ram)) ≡ true
@@ -57,12 +57,12 @@ module _ (first second : Machine) (h : HeldMachine first) (s : Second first seco
   abbrev pub headedChip : Chip
   headedChip = record { version = version; core = setCoreVersion (second .chip .core) version }
 
-  pub head-called : readHeadCalled (second .chip) (headText version) ≡ answers.answered headedChip lines.Done
+  pub head-called : readHeadCalled (second .chip) (headText version) ≡ answers.lineAnswered headedChip lines.Done
   unfolding readHeadCalled setVersionCalled
   head-called =
-      ap (λ (b : Bool). cond b (headCalled (second .chip) (heads.readHead (headText version))) (answers.answered (second .chip) lines.NotAccepted)) state
+      ap (λ (b : Bool). cond b (headCalled (second .chip) (heads.readHead (headText version))) (answers.lineAnswered (second .chip) lines.NotAccepted)) state
       ∙ ap (headCalled (second .chip)) (head-back version)
-      ∙ ap (λ (r : Answer). answers.answered (called r (second .chip) (answered headedChip Done) .chip) lines.Done) (state-none (second .chip) state)
+      ∙ ap (λ (r : Answer). answers.lineAnswered (called r (second .chip) (answered headedChip Done) .chip) lines.Done) (state-none (second .chip) state)
 
   abbrev pub headed : Machine
   headed = record { chip = headedChip; ram = second .ram; queues = second .queues }
@@ -71,7 +71,7 @@ module _ (first second : Machine) (h : HeldMachine first) (s : Second first seco
   unfolding code
   headed-is = ap (λ (c : LineCalled). record { chip = c .chip; ram = second .ram; queues = second .queues }) head-called
 
-  headed-world : worldOf headed ≡ chips.setVersion slots version (worldOf second)
+  headed-world : slotChipIn headed ≡ chips.setVersion slots version (slotChipIn second)
   headed-world = world-version (second .chip .core) (second .queues) (s .typed .sized) (second .chip .version) version (second .ram)
 
   pub headed-held : HeldMachine headed
@@ -79,7 +79,7 @@ module _ (first second : Machine) (h : HeldMachine first) (s : Second first seco
     allowed = allowed;
     sized = version-changed (second .chip .core) (s .typed .sized) version .sized;
     long = s .long;
-    good = subst WorldOk (sym headed-world) (headed-good session session-is-ok (worldOf first) (worldOf second) (h .good) accepted (s .copy));
+    good = subst SlotChipOk (sym headed-world) (headed-good session session-is-ok (slotChipIn first) (slotChipIn second) (h .good) accepted (s .copy));
   }
 
   pub read-on : resumed second (seen first) ≡ after code headed (map readVoice (seen first .lines))
@@ -88,9 +88,9 @@ module _ (first second : Machine) (h : HeldMachine first) (s : Second first seco
   pub resumed-held : HeldMachine (resumed second (seen first))
   resumed-held = subst HeldMachine (sym read-on) (held-after headed (map readVoice (seen first .lines)) headed-held (fit-lines (seen first .lines)))
 
-  pub resumed-world : worldOf (resumed second (seen first)) ≡ reads.resumed session (worldOf second) (calls.seen slots session (worldOf first))
+  pub resumed-world : slotChipIn (resumed second (seen first)) ≡ reads.slotResumed session (slotChipIn second) (calls.seenOver slots session (slotChipIn first))
   resumed-world =
-      ap worldOf read-on
+      ap slotChipIn read-on
       ∙ world-after headed (map readVoice (seen first .lines)) headed-held (fit-lines (seen first .lines))
-      ∙ ap (λ (w : World). after (run slots session) w (map readVoice (seen first .lines))) (headed-world ∙ sym (head-read session session-is-ok (worldOf first) (worldOf second) (h .good) accepted (s .copy)))
-      ∙ ap (reads.resumed session (worldOf second)) (seen-same first h)
+      ∙ ap (λ (w : SlotChip). after (run slots session) w (map readVoice (seen first .lines))) (headed-world ∙ sym (head-read session session-is-ok (slotChipIn first) (slotChipIn second) (h .good) accepted (s .copy)))
+      ∙ ap (reads.slotResumed session (slotChipIn second)) (seen-same first h)

@@ -5,26 +5,27 @@ use mathlib.Core.List.{List, [], _∷_, map}
 use Prim.Native.Nat.{ℕ}
 use lib.IntN.{ℤ}
 use lib.ListN.{length, replicate}
+use Rattle.sizes.specs.Sizes.{numChannels, queueBuffer}
 use Rattle.version.specs.declared.SguVersion.{SguVersion}
-use Rattle.voice_line.specs.Head.{headText}
+use Rattle.session_lines.specs.Head.{headText}
 use Rattle.s3w2.specs.Fresh.{madeCalled, madeRam}
 use Rattle.s3w2.specs.Refusals.{acceptsChip}
-use Rattle.session.specs.Voices.{lineOf}
+use Rattle.session.specs.Voices.{lineOfVoice}
 use Rattle.plain_chip.specs.Models.{plains}
 use Rattle.plain_chip.specs.Chips.{Plain, freshPlain}
-use Rattle.slots.specs.Models.{World, plain}
-use Rattle.chip_slots.specs.Whole.{row}
-use Rattle.call_lists.specs.Runs.{Ran, after, trace}
-use Rattle.call_lists.specs.Calls.{Answer, Call, readHead, readVoice, replies, done, run}
+use Rattle.slots.specs.Models.{SlotChip, plain}
+use Rattle.chip_as_slots.specs.Whole.{row}
+use Rattle.call_lists.specs.Runs.{Outcome, after, trace}
+use Rattle.call_lists.specs.Calls.{CallAnswer, Call, readHead, readVoice, replies, done, run}
 use Rattle.call_lists.specs.Seen as calls
 use Rattle.call_lists.specs.Seen.{Seen, FitCall}
 use Rattle.session_texts.specs.Session.{session}
-use Rattle.call_ties.specs.Ties.{world, Machine, Typed}
-use Rattle.call_ties.specs.Code.{code}
+use Rattle.chip_calls.specs.Ties.{slotChip, Machine, Typed}
+use Rattle.chip_calls.specs.Code.{code}
 
 -- the session text that `write_head` and `write_voice` write, and the RAM
 abbrev pub seen : Machine → Seen
-seen m = record { head = headText (m .chip .version); lines = row 8 (lineOf (m .chip) (m .queues)); ram = m .ram }
+seen m = record { head = headText (m .chip .version); lines = row numChannels (lineOfVoice (m .chip) (m .queues)); ram = m .ram }
 
 -- a chip that reads a session's head and then its voice lines, in order
 abbrev pub reading : Seen → List Call
@@ -41,22 +42,22 @@ made version ram queues = record { chip = madeCalled (length ram) version .chip;
 pub record Second (first second : Machine) : Type 0 where
   pub accepted : acceptsChip (second .chip) (length (second .ram)) ≡ true
   pub typed : Typed (second .chip .core) (second .queues)
-  pub long : length (second .queues) ≡ 16384
+  pub long : length (second .queues) ≡ queueBuffer
   pub copy : second .ram ≡ first .ram
 
 -- ---- what is seen of calls: each answer with the values ahead of the volume of its ticks, then the session text and the RAM
-abbrev pub ofChip : Machine → List Call → List (Ran Seen Answer)
+abbrev pub ofChip : Machine → List Call → List (Outcome Seen CallAnswer)
 ofChip m cs = trace code seen m cs
 
 -- the same of the plain chip
-abbrev pub ofPlain : Plain → List Call → List (Ran Seen Answer)
-ofPlain p cs = trace (run plains session) (calls.seen plains session) p cs
+abbrev pub ofPlain : Plain → List Call → List (Outcome Seen CallAnswer)
+ofPlain p cs = trace (run plains session) (calls.seenOver plains session) p cs
 
-abbrev pub answersOf : List (Ran Seen Answer) → List Answer
-answersOf l = map (λ (r : Ran Seen Answer). r .answer) l
+abbrev pub answersOf : List (Outcome Seen CallAnswer) → List CallAnswer
+answersOf l = map (λ (r : Outcome Seen CallAnswer). r .answer) l
 
-abbrev pub worldOf : Machine → World
-worldOf m = world (m .chip) (m .ram) (m .queues)
+abbrev pub slotChipIn : Machine → SlotChip
+slotChipIn m = slotChip (m .chip) (m .ram) (m .queues)
 
 -- A chip is made and runs xs; there it is stopped. It goes on with ys; so does a second chip that reads its session text, and the plain
 -- chip that ran xs too.
@@ -91,7 +92,7 @@ Life m (call c ∷ ds) = FitCall c × Life (code m c .next) ds
 Life m (over n ∷ ds) = Second m n × Life (resumed n (seen m)) ds
 
 -- what is seen of its calls, on whatever chip each was made
-abbrev pub ofLife : Machine → List Deed → List (Ran Seen Answer)
+abbrev pub ofLife : Machine → List Deed → List (Outcome Seen CallAnswer)
 ofLife m [] = []
 ofLife m (call c ∷ ds) = record { next = seen (code m c .next); answer = code m c .answer } ∷ ofLife (code m c .next) ds
 ofLife m (over n ∷ ds) = ofLife (resumed n (seen m)) ds
@@ -108,4 +109,4 @@ pub record SameTexts (one two : Machine) : Type 0 where
 
 pub record SameFields (one two : Machine) : Type 0 where
   pub version : one .chip .version ≡ two .chip .version
-  pub voices : plain (worldOf one) .voices ≡ plain (worldOf two) .voices
+  pub voices : plain (slotChipIn one) .voices ≡ plain (slotChipIn two) .voices

@@ -6,6 +6,7 @@ use Prim.Native.Nat.{ℕ, zero, suc, _+_, _*_, _%_, _≤_}
 use native.Mathlib.Omega.{arith}
 use lib.IntN.{ℤ, pos}
 use lib.ListN.{length, getD}
+use Rattle.sizes.specs.Sizes.{fifoCapacity, numChannels}
 use Rattle.num.specs.Integers.{up, down}
 use Rattle.tone.specs.Sides.{Ticks}
 use Rattle.tone.proofs.Sides.{ticks-none, ticks-wider}
@@ -15,7 +16,7 @@ use Rattle.ticks.specs.Mix.{silence}
 use Rattle.ticks.specs.declared.Sides.{Sides}
 use Rattle.ticks.proofs.Sums as sums
 use Rattle.voices.specs.declared.Core.{Core}
-use Rattle.frames.specs.Kept.{Bytes}
+use Rattle.frames.specs.Kept.{EachByte}
 use Rattle.frames.specs.Ticking.{voiced, voiceTicks}
 use Rattle.frames.specs.Turning.{Turns, turned, frame, frames}
 use Rattle.frames.proofs.Framing.{frames-turns}
@@ -48,38 +49,38 @@ after (x ∷ l) r e f zero = e zero
 after (x ∷ l) r e f (suc i) = after l r (λ j. e (suc j)) f i
 
 -- stems of four ticks each
-pub side-frame : (stems : List ℤ) → ((i : ℕ) → Ticks 4 (getD stems i (pos 0))) → (from : ℕ) → Frame (sideSum 8 stems from)
+pub side-frame : (stems : List ℤ) → ((i : ℕ) → Ticks 4 (getD stems i (pos 0))) → (from : ℕ) → Frame (sideSum numChannels stems from)
 unfolding sideSum
 side-frame stems e from =
     let r = sums.frame (λ k. getD stems (from + 2 * k) (pos 0)) (λ k. e (from + 2 * k)) in
     record { high = r .0; low = r .1 }
 
-module _ (version : SguVersion) (ram : List ℕ) (queues : List ℤ) (bytes : Bytes ram) (entries : FitEntries queues) where
+module _ (version : SguVersion) (ram : List ℕ) (queues : List ℤ) (bytes : EachByte ram) (entries : FitEntries queues) where
   module _ (n : ℕ) (low : 1 ≤ n) (high : n ≤ 4) (first : ℕ) (core : Core) (w : Well version (length ram) core) where
     pub turned-ticks : (k i : ℕ) → Ticks 4 (getD (turned version ram queues first n k core .stems) i (pos 0))
     unfolding turned
     turned-ticks zero = λ i. none
     turned-ticks (suc k) =
-        let s : Sides = voiceTicks version ram queues ((first + k) % 8) n (voiced (turned version ram queues first n k core .core) silence) .sides in
-        let r = turned-room version ram queues n low high bytes (λ ch. part-fits queues entries (ch * 2048) 2048) first core w k in
+        let s : Sides = voiceTicks version ram queues ((first + k) % numChannels) n (voiced (turned version ram queues first n k core .core) silence) .sides in
+        let r = turned-room version ram queues n low high bytes (λ ch. part-fits queues entries (ch * fifoCapacity) fifoCapacity) first core w k in
         after (turned version ram queues first n k core .stems) (s .left ∷ s .right ∷ []) (turned-ticks k) (two (s .left) (s .right) (r .lefts) (r .rights))
 
   -- a frame's side before clamping: hand 0 is the left one, 1 the right one
-  pub frame-side : (core : Core) → Well version (length ram) core → (hand : ℕ) → Frame (sideSum 8 (frame version ram queues core .stems) hand)
+  pub frame-side : (core : Core) → Well version (length ram) core → (hand : ℕ) → Frame (sideSum numChannels (frame version ram queues core .stems) hand)
   frame-side core w hand = side-frame (frame version ram queues core .stems) (turned-ticks 4 (omega arith) (omega arith) 0 core w 8) hand
 
   -- the same of each of m frames
-  pub frames-side : (core : Core) → Well version (length ram) core → (m from : ℕ) → Frame (sideSum 8 (frames version ram queues m core .stems) from)
+  pub frames-side : (core : Core) → Well version (length ram) core → (m from : ℕ) → Frame (sideSum numChannels (frames version ram queues m core .stems) from)
   frames-side core w m from =
-      subst (λ (t : Turns). Frame (sideSum 8 (t .stems) from)) (frames-turns version ram queues core m)
+      subst (λ (t : Turns). Frame (sideSum numChannels (t .stems) from)) (frames-turns version ram queues core m)
       (side-frame (turned version ram queues 0 4 (8 * m) core .stems) (turned-ticks 4 (omega arith) (omega arith) 0 core w (8 * m)) from)
 
   -- the frame that is mixed after n others
   pub mixed-side : (plus : ℤ → ℤ → ℤ) (start : Mix) → Well version (length ram) (start .core) → (n hand : ℕ)
-      → Frame (sideSum 8 (frame version ram queues (mixed plus version ram queues n start .core) .stems) hand)
+      → Frame (sideSum numChannels (frame version ram queues (mixed plus version ram queues n start .core) .stems) hand)
   mixed-side plus start w n hand = frame-side (mixed plus version ram queues n start .core) (mixed-well version ram queues bytes entries plus start w n) hand
 
 -- a frame of an accepted chip
-pub chip-side : (chip : Chip) (ram : List ℕ) (queues : List ℤ) → acceptsChip chip (length ram) ≡ true → FitChip chip → Bytes ram → FitEntries queues → (hand : ℕ)
-    → Frame (sideSum 8 (frame (chip .version) ram queues (chip .core) .stems) hand)
+pub chip-side : (chip : Chip) (ram : List ℕ) (queues : List ℤ) → acceptsChip chip (length ram) ≡ true → FitChip chip → EachByte ram → FitEntries queues → (hand : ℕ)
+    → Frame (sideSum numChannels (frame (chip .version) ram queues (chip .core) .stems) hand)
 chip-side chip ram queues ok fits bytes entries hand = frame-side (chip .version) ram queues bytes entries (chip .core) (chip-well chip ram queues ok fits bytes entries) hand

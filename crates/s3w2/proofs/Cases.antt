@@ -8,6 +8,7 @@ use lib.Dec.{eqb, ltb}
 use lib.IntN.{ℤ}
 use lib.ListN.{length}
 use borrow.Author.Tests.{eqb-true, eqb-false, eq-eqb, ne-eqb, lt-ltb, le-ltb}
+use Rattle.sizes.specs.Sizes.{numChannels, queueBuffer, stemsPerFrame}
 use Rattle.num.proofs.Choice.{never}
 use Rattle.voices.specs.declared.Core.{Core}
 use Rattle.voices.specs.Writes.{withQueues, writeWavetable, afterRamWrite}
@@ -37,7 +38,7 @@ there false queues state stems h = never (sym h)
 pub all-there : (ram queues state stems : Bool) (r : Answer) → r ≡ refusal ram queues state stems → isDone r ≡ true → AllThere ram queues state stems
 all-there ram queues state stems r e h = there ram queues state stems (ap isDone (sym e) ∙ h)
 
-pub with-queues : {A : Type 0} (q : List ℤ) (after before : A) → eqb (length q) 16384 ≡ true → withQueues q after before ≡ after
+pub with-queues : {A : Type 0} (q : List ℤ) (after before : A) → eqb (length q) queueBuffer ≡ true → withQueues q after before ≡ after
 with-queues q after before e = ap (λ (t : Bool). cond t after before) e
 
 -- ---- stems
@@ -49,26 +50,26 @@ same-test a b c d f g = go (eqb a b) refl
     go false e = e ∙ sym (ne-eqb c d (λ q. eqb-false a b e (g q)))
 
 module _ (n frames : ℕ) where
-  pub stems-uneven : (n % 16 ≡ 0 → ⊥) → false ≡ eqb n (16 * frames)
-  stems-uneven h = sym (ne-eqb n (16 * frames) (λ e. h (omega arith)))
+  pub stems-uneven : (n % 16 ≡ 0 → ⊥) → false ≡ eqb n (stemsPerFrame * frames)
+  stems-uneven h = sym (ne-eqb n (stemsPerFrame * frames) (λ e. h (omega arith)))
 
-  pub stems-even : n % 16 ≡ 0 → eqb (n / 16) frames ≡ eqb n (16 * frames)
-  stems-even h = same-test (n / 16) frames n (16 * frames) (λ e. omega arith) (λ e. omega arith)
+  pub stems-even : n % 16 ≡ 0 → eqb (n / 16) frames ≡ eqb n (stemsPerFrame * frames)
+  stems-even h = same-test (n / 16) frames n (stemsPerFrame * frames) (λ e. omega arith) (λ e. omega arith)
 
 -- ---- one of the eight channels, or none
 module _ (chip : Chip) (ch offset : ℕ) where
   module _ (value : ℕ) where
-    pub wave-none : 7 < ch → answered chip Done ≡ answered (cond (ltb ch 8) (withCore chip (writeWavetable (chip .core) (ch * 256 + offset) value)) chip) Done
-    wave-none h = simp (le-ltb ch 8 h)
+    pub wave-none : 7 < ch → answered chip Done ≡ answered (cond (ltb ch numChannels) (withCore chip (writeWavetable (chip .core) (ch * 256 + offset) value)) chip) Done
+    wave-none h = simp (le-ltb ch numChannels h)
 
-    pub wave-some : ch ≤ 7 → answered (withCore chip (writeWavetable (chip .core) (ch * 256 + offset) value)) Done ≡ answered (cond (ltb ch 8) (withCore chip (writeWavetable (chip .core) (ch * 256 + offset) value)) chip) Done
-    wave-some h = simp (lt-ltb ch 8 (omega arith))
+    pub wave-some : ch ≤ 7 → answered (withCore chip (writeWavetable (chip .core) (ch * 256 + offset) value)) Done ≡ answered (cond (ltb ch numChannels) (withCore chip (writeWavetable (chip .core) (ch * 256 + offset) value)) chip) Done
+    wave-some h = simp (lt-ltb ch numChannels (omega arith))
 
-  pub wave-reads-none : 7 < ch → Byte 0 ≡ Byte (cond (ltb ch 8) (readWavetable (chip .core) (ch * 256 + offset)) 0)
-  wave-reads-none h = simp (le-ltb ch 8 h)
+  pub wave-reads-none : 7 < ch → Byte 0 ≡ Byte (cond (ltb ch numChannels) (readWavetable (chip .core) (ch * 256 + offset)) 0)
+  wave-reads-none h = simp (le-ltb ch numChannels h)
 
-  pub wave-reads : (x : ℕ) → ch ≤ 7 → x ≡ readWavetable (chip .core) (ch * 256 + offset) → Byte x ≡ Byte (cond (ltb ch 8) (readWavetable (chip .core) (ch * 256 + offset)) 0)
-  wave-reads x h e = ap (λ (y : ℕ). Byte y) (e ∙ sym (ap (λ (t : Bool). cond t (readWavetable (chip .core) (ch * 256 + offset)) 0) (lt-ltb ch 8 (omega arith))))
+  pub wave-reads : (x : ℕ) → ch ≤ 7 → x ≡ readWavetable (chip .core) (ch * 256 + offset) → Byte x ≡ Byte (cond (ltb ch numChannels) (readWavetable (chip .core) (ch * 256 + offset)) 0)
+  wave-reads x h e = ap (λ (y : ℕ). Byte y) (e ∙ sym (ap (λ (t : Bool). cond t (readWavetable (chip .core) (ch * 256 + offset)) 0) (lt-ltb ch numChannels (omega arith))))
 
 -- ---- a byte of the RAM, or none
 module _ (chip : Chip) (ram address : ℕ) where

@@ -6,6 +6,7 @@ use native.Mathlib.Omega.{arith}
 use lib.IntN.{ℤ, pos}
 use lib.ListN.{length, List·getD-append}
 use lib.Seq.{getD-append-add}
+use Rattle.sizes.specs.Sizes.{numChannels, stemsPerFrame}
 use Rattle.version.specs.declared.SguVersion.{SguVersion}
 use Rattle.sides.specs.Sides.{sideSum, addedTo}
 use Rattle.frames.specs.Turning.{frame, frames}
@@ -26,13 +27,13 @@ sum-second l r from (suc n) =
     rw (sum-second l r from n, e, getD-append-add l r (from + 2 * n) (pos 0)) refl
 
 module _ (plus : ℤ → ℤ → ℤ) (l r : List ℤ) (hand first : ℕ) (one : hand ≤ 1) (side : List ℤ) where
-  pub added-first : (n : ℕ) → 16 * n ≤ length l → addedTo plus n (l ++ r) hand first side ≡ addedTo plus n l hand first side
+  pub added-first : (n : ℕ) → stemsPerFrame * n ≤ length l → addedTo plus n (l ++ r) hand first side ≡ addedTo plus n l hand first side
   unfolding addedTo
   added-first zero h = refl
-  added-first (suc n) h = rw (added-first n (omega arith), sum-first l r (16 * n + hand) 8 (omega arith)) refl
+  added-first (suc n) h = rw (added-first n (omega arith), sum-first l r (stemsPerFrame * n + hand) 8 (omega arith)) refl
 
-  pub added-last : (n : ℕ) → length l ≡ 16 * n
-      → addedTo plus (suc n) (l ++ r) hand first side ≡ added plus (addedTo plus n l hand first side) (first + n) (sideSum 8 r hand)
+  pub added-last : (n : ℕ) → length l ≡ stemsPerFrame * n
+      → addedTo plus (suc n) (l ++ r) hand first side ≡ added plus (addedTo plus n l hand first side) (first + n) (sideSum numChannels r hand)
   unfolding addedTo
   added-last n h = rw (added-first n (omega arith), sym h, sum-second l r hand 8) refl
 
@@ -48,7 +49,7 @@ module _ (version : SguVersion) (ram : List ℕ) (queues : List ℤ) where
     abbrev next : ℕ → Mix → Mix
     next n a =
         let f = frame version ram queues (a .core) in
-        mix (f .core) (added plus (a .left) n (sideSum 8 (f .stems) 0)) (added plus (a .right) n (sideSum 8 (f .stems) 1))
+        mix (f .core) (added plus (a .left) n (sideSum numChannels (f .stems) 0)) (added plus (a .right) n (sideSum numChannels (f .stems) 1))
 
     chunk-next : (b : Mix) (c : ℕ) → next (k + c) (chunk c b) ≡ chunk (suc c) b
     unfolding frames

@@ -10,6 +10,7 @@ use lib.ListN.{length, getD, take, drop}
 use lib.Seq.{getD-drop}
 use mir.Syntax.{w16}
 use mir.Val.{SFits}
+use Rattle.sizes.specs.Sizes.{fifoCapacity, numChannels, ramMost}
 use Rattle.num.specs.Lists.{part}
 use Rattle.num.proofs.Choice.{cond-by, never}
 use Rattle.num.proofs.Integers.{fit}
@@ -22,7 +23,7 @@ use Rattle.voices.specs.Reads.{readChannelControl, afterReadChannel, peekRegist
 use Rattle.voices.specs.declared.Core.{Core}
 use Rattle.voices.proofs.Accepting.{accepted-core, core-accepted, fresh-accepted}
 use Rattle.voices.proofs.Accepting as cores
-use Rattle.frames.specs.Kept.{Bytes, FitChannel}
+use Rattle.frames.specs.Kept.{EachByte, FitSounding}
 use Rattle.frames.specs.Turning.{Turns, frames}
 use Rattle.frames.proofs.Framing.{frames-turns}
 use Rattle.frames.proofs.Wells.{Well, turned-well}
@@ -32,13 +33,13 @@ use Rattle.s3w2.specs.declared.Answer.the-variants.{Done, Byte, Sample}
 use Rattle.s3w2.specs.declared.Called.{Called}
 use Rattle.s3w2.specs.declared.Chip.{Chip}
 use Rattle.s3w2.specs.Answers.{isDone, answered, called}
-use Rattle.s3w2.specs.Refusals.{acceptsChip, largest, ownRefusal, ramRefusal, queuesRefusal, soundRefusal, clockRefusal}
+use Rattle.s3w2.specs.Refusals.{acceptsChip, ownRefusal, ramRefusal, queuesRefusal, soundRefusal, clockRefusal}
 use Rattle.s3w2.specs.Chips.{withCore}
 use Rattle.s3w2.specs.Fresh.{madeCalled, setVersionCalled, resetCalled, resetChannelCalled}
 use Rattle.s3w2.specs.Ram.{writePcmRamCalled}
 use Rattle.s3w2.specs.Channels.{writeChannelWavetableCalled, writeChannelControlCalled, readChannelControlCalled, writeChannelPcmRegCalled}
 use Rattle.s3w2.specs.Registers.{writeRegisterCalled, readRegisterCalled}
-use Rattle.s3w2.specs.Sound.{ticked, framed, generateSampleCalled, clockCalled}
+use Rattle.s3w2.specs.Sound.{oneTick, framed, generateSampleCalled, clockCalled}
 use Rattle.s3w2.specs.Mixing.{Mix, mix, mixed, mixedSides, mixedCalled, clearedTo, served, clockMixedCalled}
 use Rattle.s3w2.proofs.Refused.{nothing-amiss}
 
@@ -89,7 +90,7 @@ module _ (chip : Chip) (n : ℕ) (ok : acceptsChip chip n ≡ true) where
     write-channel-wavetable-kept ch offset value =
         let next = writeWavetable (chip .core) (ch * 256 + offset) value in
         called-kept (ownRefusal chip) (answered _ Done)
-        (cond-by fine (ltb ch 8) (withCore chip next) chip (λ e. core-accepted next (chip .version) n (cores.wavetable-kept (chip .core) (chip .version) n accepted (ch * 256 + offset) value)) (λ e. ok))
+        (cond-by fine (ltb ch numChannels) (withCore chip next) chip (λ e. core-accepted next (chip .version) n (cores.wavetable-kept (chip .core) (chip .version) n accepted (ch * 256 + offset) value)) (λ e. ok))
 
     pub write-channel-control-kept : (queues ch offset value : ℕ) → acceptsChip (writeChannelControlCalled chip queues ch offset value .chip) n ≡ true
     unfolding writeChannelControlCalled
@@ -117,13 +118,13 @@ module _ (chip : Chip) (n : ℕ) (ok : acceptsChip chip n ≡ true) where
         core-kept (ownRefusal chip) (Byte (peekRegister (chip .version) (chip .core) address)) (afterReadRegister (chip .core) address) (cores.read-register-kept (chip .core) (chip .version) n accepted address)
 
 -- under another version a core is accepted over a RAM of every length
-pub set-version-every : (chip : Chip) → acceptsChip chip largest ≡ true → SizedCore (chip .core) → (version : SguVersion) (n : ℕ) → acceptsChip (setVersionCalled chip version .chip) n ≡ true
+pub set-version-every : (chip : Chip) → acceptsChip chip ramMost ≡ true → SizedCore (chip .core) → (version : SguVersion) (n : ℕ) → acceptsChip (setVersionCalled chip version .chip) n ≡ true
 unfolding setVersionCalled
 set-version-every chip ok sized version n =
     let next : Chip = record { version = version; core = setCoreVersion (chip .core) version } in
-    let goes : isDone (ownRefusal chip) ≡ true = ap isDone (sym (nothing-amiss true true (acceptsChip chip largest) true refl refl ok refl)) in
+    let goes : isDone (ownRefusal chip) ≡ true = ap isDone (sym (nothing-amiss true true (acceptsChip chip ramMost) true refl refl ok refl)) in
     cond-by (λ (u : Called). acceptsChip (u .chip) n ≡ true) (isDone (ownRefusal chip)) (answered next Done) (answered chip (ownRefusal chip))
-    (λ e. core-accepted (next .core) version n (cores.version-kept (chip .core) (chip .version) largest (accepted-core (chip .core) (chip .version) largest sized ok) version n))
+    (λ e. core-accepted (next .core) version n (cores.version-kept (chip .core) (chip .version) ramMost (accepted-core (chip .core) (chip .version) ramMost sized ok) version n))
     (λ e. never (sym goes ∙ e))
 
 -- ---- sound
@@ -131,8 +132,8 @@ set-version-every chip ok sized version n =
 -- the ranges that the types give
 pub record FitChip (chip : Chip) : Type 0 where
   pub sized : SizedCore (chip .core)
-  pub bytes : Bytes (chip .core .wavetables)
-  pub fits : (j : ℕ) → j < 8 → FitChannel (channelAt (chip .core) j)
+  pub bytes : EachByte (chip .core .wavetables)
+  pub fits : (j : ℕ) → j < numChannels → FitSounding (channelAt (chip .core) j)
 
 -- a part of the queue buffer
 each-taken : {A : Type 0} (P : A → Type 0) (d : A) → P d → (l : List A) → ((i : ℕ) → P (getD l i d)) → (n i : ℕ) → P (getD (take n l) i d)
@@ -146,9 +147,9 @@ part-fits q f from n = record {
   each = each-taken (SFits w16) (pos 0) (fit w16 (pos 0) (omega arith) (omega arith)) (drop from q) (λ i. subst (SFits w16) (sym (getD-drop from q i (pos 0))) (f .each (from + i))) n;
 }
 
-module _ (version : SguVersion) (ram : List ℕ) (queues : List ℤ) (bytes : Bytes ram) (entries : FitEntries queues) where
-  abbrev parts : (ch : ℕ) → FitEntries (part queues (ch * 2048) 2048)
-  parts ch = part-fits queues entries (ch * 2048) 2048
+module _ (version : SguVersion) (ram : List ℕ) (queues : List ℤ) (bytes : EachByte ram) (entries : FitEntries queues) where
+  abbrev parts : (ch : ℕ) → FitEntries (part queues (ch * fifoCapacity) fifoCapacity)
+  parts ch = part-fits queues entries (ch * fifoCapacity) fifoCapacity
 
   pub frames-well : (core : Core) → Well version (length ram) core → (m : ℕ) → Well version (length ram) (frames version ram queues m core .core)
   frames-well core w m = subst (λ (t : Turns). Well version (length ram) (t .core)) (frames-turns version ram queues core m) (turned-well version ram queues 4 (omega arith) (omega arith) bytes parts 0 core w (8 * m))
@@ -159,7 +160,7 @@ module _ (version : SguVersion) (ram : List ℕ) (queues : List ℤ) (bytes : By
   mixed-well plus start w (suc n) =
       turned-well version ram queues 4 (omega arith) (omega arith) bytes parts 0 (mixed plus version ram queues n start .core) (mixed-well plus start w n) 8
 
-module _ (chip : Chip) (ram : List ℕ) (queues : List ℤ) (ok : acceptsChip chip (length ram) ≡ true) (fits : FitChip chip) (bytes : Bytes ram) (entries : FitEntries queues) where
+module _ (chip : Chip) (ram : List ℕ) (queues : List ℤ) (ok : acceptsChip chip (length ram) ≡ true) (fits : FitChip chip) (bytes : EachByte ram) (entries : FitEntries queues) where
   abbrev good : Core → Type 0
   good core = Well (chip .version) (length ram) core
 
@@ -172,10 +173,10 @@ module _ (chip : Chip) (ram : List ℕ) (queues : List ℤ) (ok : acceptsChip ch
   pub generate-sample-kept : (ch : ℕ) → acceptsChip (generateSampleCalled chip ram queues ch .chip) (length ram) ≡ true
   unfolding generateSampleCalled
   generate-sample-kept ch =
-      let t = ticked chip ram queues ch in
+      let t = oneTick chip ram queues ch in
       let w = turned-well (chip .version) ram queues 1 (omega arith) (omega arith) bytes (parts (chip .version) ram queues bytes entries) ch (chip .core) chip-well 1 in
       called-kept chip (length ram) ok (soundRefusal chip (length ram) (length queues)) _
-      (cond-by (λ (u : Called). acceptsChip (u .chip) (length ram) ≡ true) (ltb ch 8) (answered (withCore chip (t .core)) (Sample (t .sample))) (answered chip (Sample (pos 0)))
+      (cond-by (λ (u : Called). acceptsChip (u .chip) (length ram) ≡ true) (ltb ch numChannels) (answered (withCore chip (t .core)) (Sample (t .sample))) (answered chip (Sample (pos 0)))
       (λ e. core-accepted (t .core) (chip .version) (length ram) (w .ready .accepted)) (λ e. ok))
 
   pub clock-kept : (n stems : ℕ) → acceptsChip (clockCalled chip ram queues n stems .chip) (length ram) ≡ true

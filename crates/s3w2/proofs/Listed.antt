@@ -9,6 +9,7 @@ use lib.Dec.{eqb, ltb}
 use lib.IntN.{ℤ}
 use lib.ListN.{length, length-set, take, set, getD}
 use lib.Seq.{getD-take, length-take-le}
+use Rattle.sizes.specs.Sizes.{queueBuffer, ramMost}
 use Rattle.num.proofs.Choice.{cond-by}
 use Rattle.tone.specs.Pcm.{isRamLength}
 use Rattle.voices.specs.Accepted.{SizedCore, AcceptedCore}
@@ -17,12 +18,12 @@ use Rattle.voices.specs.Writes.{writeRegister, writeRegisterQueues, afterRamWri
 use Rattle.voices.specs.declared.Core.{Core}
 use Rattle.voices.proofs.Accepting.{accepted-core, core-accepted, register-kept, ram-kept}
 use Rattle.voices.proofs.Voices.{length-register-queues}
-use Rattle.frames.specs.Kept.{Bytes}
+use Rattle.frames.specs.Kept.{EachByte}
 use Rattle.s3w2.specs.declared.Answer.{Answer}
 use Rattle.s3w2.specs.declared.Answer.the-variants.{Done}
 use Rattle.s3w2.specs.declared.Chip.{Chip}
 use Rattle.s3w2.specs.Answers.{isDone, answered}
-use Rattle.s3w2.specs.Refusals.{refusal, acceptsChip, largest, ramRefusal, queuesRefusal}
+use Rattle.s3w2.specs.Refusals.{refusal, acceptsChip, ramRefusal, queuesRefusal}
 use Rattle.s3w2.specs.Chips.{withCore}
 use Rattle.s3w2.specs.Ram.{writePcmRamCalled, writePcmRamRam, bytesStored}
 use Rattle.s3w2.specs.Registers.{writeRegisterCalled, writeRegisterBuffer}
@@ -58,19 +59,19 @@ module _ (chip : Chip) (queues : List ℤ) (addresses values : List ℕ) where
       register-away chip queues (getD addresses n 0) (getD values n 0) h
       ∙ ap (λ (b : Fed). registerStep b (getD addresses n 0) (getD values n 0)) (registers-away h n)
 
-  abbrev coreFed : ℕ → cores.Written
-  coreFed n = cores.registersWritten (chip .version) n addresses values (cores.written (chip .core) queues)
+  abbrev coreFed : ℕ → cores.FedCore
+  coreFed n = cores.registersWritten (chip .version) n addresses values (cores.fedCore (chip .core) queues)
 
   -- after n that go on
   record Registers (n : ℕ) : Type 0 where
     all : fed (withCore chip (coreFed n .core)) (coreFed n .queues) ≡ registersWritten n addresses values (fed chip queues)
-    accepted : AcceptedCore (coreFed n .core) (chip .version) largest
+    accepted : AcceptedCore (coreFed n .core) (chip .version) ramMost
     long : length (coreFed n .queues) ≡ length queues
 
-  module _ (lent : eqb (length queues) 16384 ≡ true) (ok : acceptsChip chip largest ≡ true) (sized : SizedCore (chip .core)) (bytes : Bytes values) where
+  module _ (lent : eqb (length queues) queueBuffer ≡ true) (ok : acceptsChip chip ramMost ≡ true) (sized : SizedCore (chip .core)) (bytes : EachByte values) where
     registers : (n : ℕ) → Registers n
     unfolding registersWritten cores.registersWritten
-    registers zero = record { all = refl; accepted = accepted-core (chip .core) (chip .version) largest sized ok; long = refl }
+    registers zero = record { all = refl; accepted = accepted-core (chip .core) (chip .version) ramMost sized ok; long = refl }
     registers (suc n) =
         let g = registers n in
         let k = coreFed n .core in
@@ -80,13 +81,13 @@ module _ (chip : Chip) (queues : List ℤ) (addresses values : List ℕ) where
         record {
           all =
               register-done (withCore chip k) q address value
-              (goes true (eqb (length q) 16384) (acceptsChip (withCore chip k) largest) refl (ap (λ (m : ℕ). eqb m 16384) (g .long) ∙ lent) (core-accepted k (chip .version) largest (g .accepted)))
+              (goes true (eqb (length q) queueBuffer) (acceptsChip (withCore chip k) ramMost) refl (ap (λ (m : ℕ). eqb m queueBuffer) (g .long) ∙ lent) (core-accepted k (chip .version) ramMost (g .accepted)))
               ∙ ap (λ (b : Fed). registerStep b address value) (g .all);
-          accepted = register-kept k (chip .version) largest (g .accepted) address value (bytes n);
+          accepted = register-kept k (chip .version) ramMost (g .accepted) address value (bytes n);
           long = length-register-queues (chip .version) k q address value ∙ g .long;
         }
 
-    pub registers-done : (n : ℕ) → fed (withCore chip (cores.registersWritten (chip .version) n addresses values (cores.written (chip .core) queues) .core)) (cores.registersWritten (chip .version) n addresses values (cores.written (chip .core) queues) .queues) ≡ registersWritten n addresses values (fed chip queues)
+    pub registers-done : (n : ℕ) → fed (withCore chip (cores.registersWritten (chip .version) n addresses values (cores.fedCore (chip .core) queues) .core)) (cores.registersWritten (chip .version) n addresses values (cores.fedCore (chip .core) queues) .queues) ≡ registersWritten n addresses values (fed chip queues)
     registers-done n = registers n .all
 
 -- ---- bytes of the RAM

@@ -8,6 +8,7 @@ use lib.Dec.{eqb}
 use lib.IntN.{ℤ, pos}
 use lib.ListN.{length, take, drop, replicate, length-append, length-take, length-drop, length-replicate, drop-of-length-le}
 use lib.Seq.{sets, sets-eq, length-sets}
+use Rattle.sizes.specs.Sizes.{queueBuffer}
 use Rattle.sides.specs.Sides.{framesIn, addedTo, saturating}
 use Rattle.sides.proofs.Added.{added-length}
 use Rattle.version.specs.declared.SguVersion.{SguVersion}
@@ -39,7 +40,7 @@ pub record Going (plus : ℤ → ℤ → ℤ) (version : SguVersion) (ram : List
   pub long : n ≡ min (length (start .left)) (length (start .right))
 
 -- ---- the turns of a stem buffer with room for some frames are these frames
-module _ (version : SguVersion) (ram : List ℕ) (queues : List ℤ) (core : Core) (lent : eqb (length queues) 16384 ≡ true) (ok : acceptsCore core version (length ram) ≡ true) (count : ℕ) (stems : List ℤ) (es : length stems ≡ 16 * count) where
+module _ (version : SguVersion) (ram : List ℕ) (queues : List ℤ) (core : Core) (lent : eqb (length queues) queueBuffer ≡ true) (ok : acceptsCore core version (length ram) ≡ true) (count : ℕ) (stems : List ℤ) (es : length stems ≡ 16 * count) where
   abbrev ran : Turns
   ran = runOf version ram queues 0 4 (length stems / 2) core
 
@@ -62,7 +63,7 @@ module _ (plus : ℤ → ℤ → ℤ) (version : SguVersion) (ram : List ℕ) (q
   unfolding mixed
   begin e h = record { within = omega arith; is = refl; accepted = h; lefts = refl; rights = refl; long = e }
 
-  module _ (k : ℕ) (now : Mix) (g : Going plus version ram queues n start k now) (lent : eqb (length queues) 16384 ≡ true) (more : k < n) (count : ℕ) (ec : count ≡ min (n - k) 256) (stems : List ℤ) (es : length stems ≡ 16 * count) where
+  module _ (k : ℕ) (now : Mix) (g : Going plus version ram queues n start k now) (lent : eqb (length queues) queueBuffer ≡ true) (more : k < n) (count : ℕ) (ec : count ≡ min (n - k) 256) (stems : List ℤ) (es : length stems ≡ 16 * count) where
     abbrev R : Turns
     R = runOf version ram queues 0 4 (length stems / 2) (now .core)
 

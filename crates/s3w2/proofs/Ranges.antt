@@ -11,13 +11,13 @@ use mir.Val.{Val}
 use Rattle.voice.specs.declared.Channel.{Channel}
 use Rattle.voice.proofs.Channel as channel
 use Rattle.voices.specs.Core.{noChannel}
-use Rattle.frames.specs.Kept.{FitChannel}
+use Rattle.frames.specs.Kept.{FitSounding}
 use Rattle.frames.proofs.Fits.{fit-channel, sized, bytes}
 use Rattle.s3w2.specs.declared.Chip.{Chip}
 use Rattle.s3w2.proofs.Chip as chips
 use Rattle.s3w2.proofs.Kept.{FitChip}
 
-channels-fit : (l : List Channel) (us : List Val) → shadow (each (channel.the-field .row .Denot) (channel.the-field .row .own) (map (channel.the-field .into) l) us) → (j : ℕ) → j < length l → FitChannel (getD l j noChannel)
+channels-fit : (l : List Channel) (us : List Val) → shadow (each (channel.the-field .row .Denot) (channel.the-field .row .own) (map (channel.the-field .into) l) us) → (j : ℕ) → j < length l → FitSounding (getD l j noChannel)
 channels-fit [] us g j h = absurd (omega arith)
 channels-fit (x ∷ l) [] g j h = absurd g
 channels-fit (x ∷ l) (u ∷ us) g zero h = fit-channel x (g .0 .1 .1)

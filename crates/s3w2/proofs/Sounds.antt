@@ -8,6 +8,7 @@ use lib.Dec.{eqb, ltb}
 use lib.IntN.{ℤ, pos}
 use lib.ListN.{length}
 use borrow.Author.Tests.{eqb-true, lt-ltb, le-ltb}
+use Rattle.sizes.specs.Sizes.{numChannels, queueBuffer}
 use Rattle.version.specs.declared.SguVersion.{SguVersion}
 use Rattle.voices.specs.declared.Core.{Core}
 use Rattle.voices.specs.Accepted.{acceptsCore}
@@ -19,24 +20,24 @@ use Rattle.s3w2.specs.declared.Called.{Called}
 use Rattle.s3w2.specs.declared.Answer.the-variants.{Sample}
 use Rattle.s3w2.specs.Answers.{answered}
 use Rattle.s3w2.specs.Chips.{withCore}
-use Rattle.s3w2.specs.Sound.{ticked}
+use Rattle.s3w2.specs.Sound.{oneTick}
 
 -- one to four ticks each, and 16,384 queue entries
-pub run-open : (version : SguVersion) (ram : List ℕ) (queues : List ℤ) (first n k : ℕ) (core : Core) → eqb (length queues) 16384 ≡ true → 1 ≤ n → n ≤ 4 → acceptsCore core version (length ram) ≡ true
+pub run-open : (version : SguVersion) (ram : List ℕ) (queues : List ℤ) (first n k : ℕ) (core : Core) → eqb (length queues) queueBuffer ≡ true → 1 ≤ n → n ≤ 4 → acceptsCore core version (length ram) ≡ true
     → runOf version ram queues first n k core ≡ turned version ram queues first n k core
 run-open version ram queues first n k core lent low high ok =
-    sym (ran version ram queues n core first k (sym (asked version ram queues n core (eqb-true (length queues) 16384 lent) low high) ∙ ok))
+    sym (ran version ram queues n core first k (sym (asked version ram queues n core (eqb-true (length queues) queueBuffer lent) low high) ∙ ok))
 
 module _ (chip : Chip) (ram : List ℕ) (queues : List ℤ) (ch : ℕ) where
   abbrev given : Called
-  given = answered (withCore chip (ticked chip ram queues ch .core)) (Sample (ticked chip ram queues ch .sample))
+  given = answered (withCore chip (oneTick chip ram queues ch .core)) (Sample (oneTick chip ram queues ch .sample))
 
-  pub sample-none : 7 < ch → answered chip (Sample (pos 0)) ≡ cond (ltb ch 8) given (answered chip (Sample (pos 0)))
-  sample-none h = sym (ap (λ (t : Bool). cond t given (answered chip (Sample (pos 0)))) (le-ltb ch 8 h))
+  pub sample-none : 7 < ch → answered chip (Sample (pos 0)) ≡ cond (ltb ch numChannels) given (answered chip (Sample (pos 0)))
+  sample-none h = sym (ap (λ (t : Bool). cond t given (answered chip (Sample (pos 0)))) (le-ltb ch numChannels h))
 
-  pub sample-some : (core : Core) (sample : ℤ) → ch ≤ 7 → eqb (length queues) 16384 ≡ true → acceptsCore (chip .core) (chip .version) (length ram) ≡ true
+  pub sample-some : (core : Core) (sample : ℤ) → ch ≤ 7 → eqb (length queues) queueBuffer ≡ true → acceptsCore (chip .core) (chip .version) (length ram) ≡ true
       → record { core = core; sample = sample } ≡ afterTurns (runOf (chip .version) ram queues ch 1 1 (chip .core))
-      → answered (withCore chip core) (Sample sample) ≡ cond (ltb ch 8) given (answered chip (Sample (pos 0)))
+      → answered (withCore chip core) (Sample sample) ≡ cond (ltb ch numChannels) given (answered chip (Sample (pos 0)))
   sample-some core sample h q a e =
-      let r : _≡_ {A = Turned} (record { core = core; sample = sample }) (afterTurns (ticked chip ram queues ch)) = e ∙ ap afterTurns (run-open (chip .version) ram queues ch 1 1 (chip .core) q (omega arith) (omega arith) a) in
-      ap (λ (t : Turned). answered (withCore chip (t .core)) (Sample (t .sample))) r ∙ sym (ap (λ (t : Bool). cond t given (answered chip (Sample (pos 0)))) (lt-ltb ch 8 (omega arith)))
+      let r : _≡_ {A = Turned} (record { core = core; sample = sample }) (afterTurns (oneTick chip ram queues ch)) = e ∙ ap afterTurns (run-open (chip .version) ram queues ch 1 1 (chip .core) q (omega arith) (omega arith) a) in
+      ap (λ (t : Turned). answered (withCore chip (t .core)) (Sample (t .sample))) r ∙ sym (ap (λ (t : Bool). cond t given (answered chip (Sample (pos 0)))) (lt-ltb ch numChannels (omega arith)))

@@ -5,6 +5,7 @@ use Prim.Native.Nat.{ℕ, _+_, _*_}
 use lib.Dec.{ltb}
 use lib.IntN.{ℤ}
 use lib.ListN.{length}
+use Rattle.sizes.specs.Sizes.{numChannels}
 use Rattle.voices.specs.Writes.{writeChannelControl, writeChannelControlQueues, writeChannelPcmReg, writeWavetable}
 use Rattle.voices.specs.Reads.{readChannelControl, readChannelPcmReg, afterReadChannel, readWavetable, wavetableLength, interpolatesAt}
 use Rattle.s3w2.specs.declared.Chip.{Chip}
@@ -17,10 +18,10 @@ use Rattle.s3w2.specs.Chips.{withCore}
 
 unfoldable pub writeChannelWavetableCalled : Chip → ℕ → ℕ → ℕ → Called
 writeChannelWavetableCalled chip ch offset value =
-    called (ownRefusal chip) chip (answered (cond (ltb ch 8) (withCore chip (writeWavetable (chip .core) (ch * 256 + offset) value)) chip) Done)
+    called (ownRefusal chip) chip (answered (cond (ltb ch numChannels) (withCore chip (writeWavetable (chip .core) (ch * 256 + offset) value)) chip) Done)
 
 unfoldable pub readChannelWavetableAnswer : Chip → ℕ → ℕ → Answer
-readChannelWavetableAnswer chip ch offset = told (ownRefusal chip) (Byte (cond (ltb ch 8) (readWavetable (chip .core) (ch * 256 + offset)) 0))
+readChannelWavetableAnswer chip ch offset = told (ownRefusal chip) (Byte (cond (ltb ch numChannels) (readWavetable (chip .core) (ch * 256 + offset)) 0))
 
 unfoldable pub writeChannelControlCalled : Chip → ℕ → ℕ → ℕ → ℕ → Called
 writeChannelControlCalled chip queues ch offset value =

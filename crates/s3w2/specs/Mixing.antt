@@ -4,6 +4,7 @@ use Prim.Native.Nat.{ℕ, zero, suc, min}
 use lib.IntN.{ℤ, pos}
 use lib.ListN.{length, getD, set, replicate}
 use lib.Seq.{sets}
+use Rattle.sizes.specs.Sizes.{numChannels}
 use Rattle.version.specs.declared.SguVersion.{SguVersion}
 use Rattle.voices.specs.declared.Core.{Core}
 use Rattle.sides.specs.Sides.{sideSum, framesIn, addedTo, saturating}
@@ -39,7 +40,7 @@ module _ (plus : ℤ → ℤ → ℤ) (version : SguVersion) (ram : List ℕ) (q
   mixed (suc n) m =
       let b = mixed n m in
       let f = frame version ram queues (b .core) in
-      mix (f .core) (added plus (b .left) n (sideSum 8 (f .stems) 0)) (added plus (b .right) n (sideSum 8 (f .stems) 1))
+      mix (f .core) (added plus (b .left) n (sideSum numChannels (f .stems) 0)) (added plus (b .right) n (sideSum numChannels (f .stems) 1))
 
 -- ---- the calls: `clock_mixed_into` and `clock_mixed_into_i32` by their way to add
 module _ (plus : ℤ → ℤ → ℤ) (chip : Chip) (ram : List ℕ) (queues left right : List ℤ) where

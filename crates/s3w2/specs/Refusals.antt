@@ -2,6 +2,7 @@
 use mathlib.Core.Bool.{Bool, true, cond}
 use Prim.Native.Nat.{ℕ, _*_}
 use lib.Dec.{eqb}
+use Rattle.sizes.specs.Sizes.{queueBuffer, ramMost, stemsPerFrame}
 use Rattle.tone.specs.Pcm.{isRamLength}
 use Rattle.voices.specs.Accepted.{acceptsCore}
 use Rattle.s3w2.specs.declared.Answer.{Answer}
@@ -12,29 +13,25 @@ use Rattle.s3w2.specs.declared.Chip.{Chip}
 abbrev pub acceptsChip : Chip → ℕ → Bool
 acceptsChip chip length = acceptsCore (chip .core) (chip .version) length
 
--- no address of an accepted state is past the largest RAM, so it stands for a RAM that is not lent
-abbrev pub largest : ℕ
-largest = 16777216
-
 -- document 01's table: the first of the things that a call takes and that is not as it should be; true stands for what it does not take
 unfoldable pub refusal : Bool → Bool → Bool → Bool → Answer
 refusal ram queues state stems = cond ram (cond queues (cond state (cond stems Done StemBuffer) NotAccepted) QueueBuffer) RamLength
 
--- ---- by what a call is lent
+-- ---- by what a call is lent; no address of an accepted state is past the largest RAM, so its length stands for a RAM that is not lent
 
 abbrev pub ownRefusal : Chip → Answer
-ownRefusal chip = refusal true true (acceptsChip chip largest) true
+ownRefusal chip = refusal true true (acceptsChip chip ramMost) true
 
 abbrev pub ramRefusal : Chip → ℕ → Answer
 ramRefusal chip ram = refusal (isRamLength ram) true (acceptsChip chip ram) true
 
 abbrev pub queuesRefusal : Chip → ℕ → Answer
-queuesRefusal chip queues = refusal true (eqb queues 16384) (acceptsChip chip largest) true
+queuesRefusal chip queues = refusal true (eqb queues queueBuffer) (acceptsChip chip ramMost) true
 
 -- RAM and queues
 abbrev pub soundRefusal : Chip → ℕ → ℕ → Answer
-soundRefusal chip ram queues = refusal (isRamLength ram) (eqb queues 16384) (acceptsChip chip ram) true
+soundRefusal chip ram queues = refusal (isRamLength ram) (eqb queues queueBuffer) (acceptsChip chip ram) true
 
 -- and stems, 16 a frame
 abbrev pub clockRefusal : Chip → ℕ → ℕ → ℕ → ℕ → Answer
-clockRefusal chip ram queues frames stems = refusal (isRamLength ram) (eqb queues 16384) (acceptsChip chip ram) (eqb stems (16 * frames))
+clockRefusal chip ram queues frames stems = refusal (isRamLength ram) (eqb queues queueBuffer) (acceptsChip chip ram) (eqb stems (stemsPerFrame * frames))

@@ -5,6 +5,7 @@ use Prim.Native.Nat.{ℕ}
 use lib.Dec.{ltb}
 use lib.IntN.{ℤ, pos}
 use lib.ListN.{length}
+use Rattle.sizes.specs.Sizes.{numChannels}
 use Rattle.frames.specs.Turning.{Turns, turned, frames}
 use Rattle.s3w2.specs.declared.Chip.{Chip}
 use Rattle.s3w2.specs.declared.Called.{Called}
@@ -14,13 +15,13 @@ use Rattle.s3w2.specs.Refusals.{soundRefusal, clockRefusal}
 use Rattle.s3w2.specs.Chips.{withCore}
 
 -- a tick of one voice; a channel above 7 gives 0
-abbrev pub ticked : Chip → List ℕ → List ℤ → ℕ → Turns
-ticked chip ram queues ch = turned (chip .version) ram queues ch 1 1 (chip .core)
+abbrev pub oneTick : Chip → List ℕ → List ℤ → ℕ → Turns
+oneTick chip ram queues ch = turned (chip .version) ram queues ch 1 1 (chip .core)
 
 unfoldable pub generateSampleCalled : Chip → List ℕ → List ℤ → ℕ → Called
 generateSampleCalled chip ram queues ch =
     called (soundRefusal chip (length ram) (length queues)) chip
-    (cond (ltb ch 8) (answered (withCore chip (ticked chip ram queues ch .core)) (Sample (ticked chip ram queues ch .sample))) (answered chip (Sample (pos 0))))
+    (cond (ltb ch numChannels) (answered (withCore chip (oneTick chip ram queues ch .core)) (Sample (oneTick chip ram queues ch .sample))) (answered chip (Sample (pos 0))))
 
 -- some frames
 abbrev pub framed : Chip → List ℕ → List ℤ → ℕ → Turns

@@ -6,6 +6,7 @@ use crate::Answer;
 use crate::Called;
 use crate::Chip;
 use crate::refusals::is_done;
+use sizes::LAST_CHANNEL;
 
 impl Chip {
     pub fn write_channel_wavetable(self, ch: usize, offset: u8, value: u8) -> Called
@@ -15,7 +16,7 @@ impl Chip {
         if !is_done(refusal) {
             return self.answers(refusal);
         }
-        if 7 < ch {
+        if LAST_CHANNEL < ch {
             return self.answers(Answer::Done);
         }
         let core = self.core;
@@ -30,7 +31,7 @@ impl Chip {
         if !is_done(refusal) {
             return refusal;
         }
-        if 7 < ch {
+        if LAST_CHANNEL < ch {
             return Answer::Byte(0);
         }
         let core = self.core;

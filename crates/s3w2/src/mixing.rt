@@ -14,6 +14,11 @@ use crate::refusals::is_done;
 use version::SguVersion;
 use voices::Core;
 
+// Frames mixed at a time.
+const CHUNK: usize = 256;
+
+use sizes::STEMS;
+
 fn clear(side: &mut [i16], n: usize)
     ensures { λ _. ⌜ now (side .exit) ≡ clearedTo n (now (side .entry)) ⌝ }
 {
@@ -106,11 +111,11 @@ impl Chip {
         let version = self.version;
         let mut core = self.core;
         let n = num::least(left.len(), right.len());
-        let mut stems = [0i16; 4096];
+        let mut stems = [0i16; STEMS * CHUNK];
         let mut done = 0;
         while done < n {
-            let count = num::least(n - done, 256);
-            let end = 16 * count;
+            let count = num::least(n - done, CHUNK);
+            let end = STEMS * count;
             let part = &mut stems[..end];
             core = add_frames(
                 core,
@@ -147,11 +152,11 @@ impl Chip {
         let version = self.version;
         let mut core = self.core;
         let n = num::least(left.len(), right.len());
-        let mut stems = [0i16; 4096];
+        let mut stems = [0i16; STEMS * CHUNK];
         let mut done = 0;
         while done < n {
-            let count = num::least(n - done, 256);
-            let end = 16 * count;
+            let count = num::least(n - done, CHUNK);
+            let end = STEMS * count;
             let part = &mut stems[..end];
             core = add_frames_i32(
                 core,

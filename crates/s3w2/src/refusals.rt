@@ -3,13 +3,13 @@ ghost use mathlib.Core.Path.{_≡_};
 ghost use lib.Dec.{eqb};
 ghost use Prim.Native.Nat.{_*_};
 ghost use lib.ListN.{getD};
+ghost use Rattle.sizes.specs.Sizes.{stemsPerFrame};
 ghost use Rattle.s3w2.specs.Answers.{isDone, numberOf};
 ghost use Rattle.s3w2.specs.Refusals.{acceptsChip, ownRefusal, ramRefusal, queuesRefusal, soundRefusal, clockRefusal};
 use crate::Answer;
 use crate::Chip;
-
-// The largest RAM length: no address of an accepted state is past it, so it stands for a RAM that is not lent.
-const LARGEST: usize = 16777216;
+use sizes::QUEUE_BUFFER;
+use sizes::RAM_MOST;
 
 // Whether a call may go on.
 pub(crate) fn is_done(answer: Answer) -> bool
@@ -30,7 +30,7 @@ pub(crate) fn is_done(answer: Answer) -> bool
 
 // Whether a stem buffer has 16 entries a frame.
 fn is_stem_buffer(length: usize, frames: usize) -> bool
-    ensures { λ r. ⌜ r ≡ eqb length (16 * frames) ⌝ }
+    ensures { λ r. ⌜ r ≡ eqb length (stemsPerFrame * frames) ⌝ }
 {
     if length % 16 != 0 {
         return false;
@@ -67,11 +67,12 @@ impl Chip {
         core.accepts(version, length)
     }
 
-    // A call that is lent neither RAM nor queues.
+    // A call that is lent neither RAM nor queues. No address of an accepted state is past the largest RAM, so its length
+    // stands for a RAM that is not lent.
     pub(crate) fn refusal(self) -> Answer
         ensures { λ r. ⌜ r ≡ ownRefusal self ⌝ }
     {
-        if !self.accepts(LARGEST) {
+        if !self.accepts(RAM_MOST) {
             return Answer::NotAccepted;
         }
         Answer::Done
@@ -92,7 +93,7 @@ impl Chip {
     pub(crate) fn refusal_with_queues(self, queues: usize) -> Answer
         ensures { λ r. ⌜ r ≡ queuesRefusal self queues ⌝ }
     {
-        if queues != 16384 {
+        if queues != QUEUE_BUFFER {
             return Answer::QueueBuffer;
         }
         self.refusal()
@@ -105,7 +106,7 @@ impl Chip {
         if !tone::is_ram_length(length) {
             return Answer::RamLength;
         }
-        if queues != 16384 {
+        if queues != QUEUE_BUFFER {
             return Answer::QueueBuffer;
         }
         if !self.accepts(length) {

@@ -6,6 +6,7 @@ use crate::Answer;
 use crate::Called;
 use crate::Chip;
 use crate::refusals::is_done;
+use sizes::LAST_CHANNEL;
 
 impl Chip {
     // A tick of one voice; a channel above 7 gives 0.
@@ -17,7 +18,7 @@ impl Chip {
         if !is_done(refusal) {
             return self.answers(refusal);
         }
-        if 7 < ch {
+        if LAST_CHANNEL < ch {
             return self.answers(Answer::Sample(0));
         }
         let version = self.version;

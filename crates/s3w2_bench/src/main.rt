@@ -4,6 +4,7 @@ use decimal::TakenNatural;
 use log_player::Next;
 use log_player::Player;
 use s3w2::Chip;
+use sizes::QUEUE_BUFFER;
 
 // A chip, and the sums of the values that it has given, in two's complement of 64 bits.
 struct Summed {
@@ -183,7 +184,7 @@ fn run(ram: &mut [u8], queues: &mut [i16], text: &mut [u8]) {
 
 fn main() {
     let mut ram = [0u8; 65536];
-    let mut queues = [0i16; 16384];
+    let mut queues = [0i16; QUEUE_BUFFER];
     let mut text = [0u8; 2097152];
     run(&mut ram, &mut queues, &mut text);
 }

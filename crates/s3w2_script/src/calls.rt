@@ -7,6 +7,7 @@ use crate::showing;
 use s3w2::Answer;
 use s3w2::Called;
 use s3w2::Chip;
+use sizes::QUEUE_BUFFER;
 use version::Parsed;
 use version::SguVersion;
 
@@ -220,7 +221,7 @@ impl Player {
             }
             b'N' => {
                 let made = Player::fresh(ram, fields::version(f, 0), y);
-                self.lent(y, 16384).after(made, out, at)
+                self.lent(y, QUEUE_BUFFER).after(made, out, at)
             }
             _ => {
                 let n = num::least(self.ram, ram.len());

@@ -6,6 +6,7 @@ mod showing;
 mod sounding;
 
 use s3w2::Chip;
+use sizes::QUEUE_BUFFER;
 use version::SguVersion;
 
 // The most fields that a line has.
@@ -205,7 +206,7 @@ fn with_texts(ram: &mut [u8], queues: &mut [i16]) {
     let player = Player {
         chip,
         ram: 256,
-        queues: 16384,
+        queues: QUEUE_BUFFER,
     };
     run(player, ram, queues, &mut text, &mut out);
 }

@@ -8,6 +8,9 @@ use registers::PcmRegisters;
 use registers::Registers;
 use registers::WaveformType;
 use s3w2::Chip;
+use sizes::FIFO_CAPACITY;
+use sizes::QUEUE_BUFFER;
+use sizes::WAVETABLES_SIZE;
 use stream::Cached;
 use stream::Held;
 use stream::Info;
@@ -64,19 +67,19 @@ fn fifo_of(f: &[u64]) -> Fifo {
 
 // The queue's entries from its head on, from a seed.
 fn fill_queue(queues: &mut [i16], ch: usize, fifo: Fifo, seed: u64) {
-    if queues.len() < 16384 {
+    if queues.len() < QUEUE_BUFFER {
         return;
     }
     let mut x = seed;
-    for i in 0..num::least(fifo.count, 2048) {
+    for i in 0..num::least(fifo.count, FIFO_CAPACITY) {
         x = fields::next_seed(x);
-        let at = ch % 8 * 2048 + (fifo.head % 2048 + i) % 2048;
+        let at = ch % 8 * FIFO_CAPACITY + (fifo.head % FIFO_CAPACITY + i) % FIFO_CAPACITY;
         queues[at] = num::signed16(fields::bits_of(x));
     }
 }
 
 // The voice's wavetable from a seed; from 0 that of a fresh voice.
-fn fill_wavetable(wavetables: &mut [u8; 2048], ch: usize, seed: u64) {
+fn fill_wavetable(wavetables: &mut [u8; WAVETABLES_SIZE], ch: usize, seed: u64) {
     let mut x = seed;
     for i in 0usize..256 {
         x = fields::next_seed(x);

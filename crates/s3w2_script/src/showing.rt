@@ -5,6 +5,9 @@ use registers::Fifo;
 use registers::PcmRegisters;
 use registers::Registers;
 use s3w2::Chip;
+use sizes::FIFO_CAPACITY;
+use sizes::QUEUE_BUFFER;
+use sizes::WAVETABLES_SIZE;
 use stream::Cached;
 use stream::Held;
 use stream::StreamCache;
@@ -100,17 +103,22 @@ fn put_cache(out: &mut [u8], at: usize, s: StreamCache) -> usize {
 // The queue's count and its entries, oldest first.
 fn put_queue(out: &mut [u8], at: usize, f: Fifo, queues: &[i16], ch: usize) -> usize {
     let mut end = fields::put(&mut *out, at, f.count as u64);
-    if queues.len() < 16384 {
+    if queues.len() < QUEUE_BUFFER {
         return end;
     }
-    for i in 0..num::least(f.count, 2048) {
-        let k = ch % 8 * 2048 + (f.head % 2048 + i) % 2048;
+    for i in 0..num::least(f.count, FIFO_CAPACITY) {
+        let k = ch % 8 * FIFO_CAPACITY + (f.head % FIFO_CAPACITY + i) % FIFO_CAPACITY;
         end = fields::put_sample(&mut *out, end, queues[k]);
     }
     end
 }
 
-fn put_wavetable(out: &mut [u8], at: usize, wavetables: &[u8; 2048], ch: usize) -> usize {
+fn put_wavetable(
+    out: &mut [u8],
+    at: usize,
+    wavetables: &[u8; WAVETABLES_SIZE],
+    ch: usize,
+) -> usize {
     let mut end = at;
     for i in 0usize..256 {
         let k = ch % 8 * 256 + i;

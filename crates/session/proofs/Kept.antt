@@ -6,11 +6,11 @@ use Prim.Native.Nat.{ℕ}
 use native.Mathlib.Omega.{arith}
 use lib.IntN.{ℤ}
 use Rattle.num.proofs.Choice.{cond-by}
-use Rattle.voice_line.specs.Head.{readHead}
-use Rattle.voice_line.specs.Lines.{Voice, ReadVoice, voice, malformed, readVoice}
-use Rattle.voice_line.specs.declared.HeadLine.{HeadLine}
-use Rattle.voice_line.specs.declared.HeadLine.the-variants as head
-use Rattle.voice_line.proofs.Taken.{Told, read-told}
+use Rattle.session_lines.specs.Head.{readHead}
+use Rattle.session_lines.specs.Lines.{NumberedVoice, ReadVoice, voice, malformed, readVoice}
+use Rattle.session_lines.specs.declared.HeadLine.{HeadLine}
+use Rattle.session_lines.specs.declared.HeadLine.the-variants as head
+use Rattle.session_lines.proofs.Taken.{Told, read-told}
 use Rattle.voices.specs.Accepted.{SizedCore}
 use Rattle.voices.proofs.Accepting.{accepted-core, core-accepted, one-kept}
 use Rattle.s3w2.specs.Refusals.{acceptsChip}
@@ -18,7 +18,7 @@ use Rattle.s3w2.specs.declared.Chip.{Chip}
 use Rattle.s3w2.proofs.Kept.{set-version-kept}
 use Rattle.session.specs.declared.LineCalled.{LineCalled}
 use Rattle.session.specs.declared.LineAnswer.the-variants.{QueueBuffer, NotAccepted}
-use Rattle.session.specs.Answers.{answered, stateAccepted, queuesLent, withState}
+use Rattle.session.specs.Answers.{lineAnswered, stateAccepted, queuesLent, withState}
 use Rattle.session.specs.Heads.{headCalled, readHeadCalled}
 use Rattle.session.specs.Voices.{loadedCore, loadedChip, voiceCalled, readVoiceCalled}
 use Rattle.session.proofs.Loaded.{loaded-changed}
@@ -34,14 +34,14 @@ module _ (chip : Chip) (n : ℕ) (ok : acceptsChip chip n ≡ true) (sized : Siz
 
   pub read-head-kept : (text : List ℕ) → acceptsChip (readHeadCalled chip text .chip) n ≡ true
   unfolding readHeadCalled
-  read-head-kept text = cond-by fine (stateAccepted chip) (headCalled chip (readHead text)) (answered chip NotAccepted) (λ e. head-kept (readHead text)) (λ e. ok)
+  read-head-kept text = cond-by fine (stateAccepted chip) (headCalled chip (readHead text)) (lineAnswered chip NotAccepted) (λ e. head-kept (readHead text)) (λ e. ok)
 
-  voice-kept : (v : Voice) → Told (chip .version) v → acceptsChip (loadedChip chip (v .number) (voice v)) n ≡ true
+  voice-kept : (v : NumberedVoice) → Told (chip .version) v → acceptsChip (loadedChip chip (v .number) (voice v)) n ≡ true
   voice-kept v r =
       core-accepted (loadedCore (chip .core) (v .number) (voice v)) (chip .version) n
       (one-kept (chip .core) (chip .version) n (accepted-core (chip .core) (chip .version) n sized ok) (loaded-changed (voice v) (v .number) (omega (arith, r .eight)) (chip .core) sized) (r .accepted n))
 
-  line-kept : (r : ReadVoice) → ((v : Voice) → r ≡ voice v → Told (chip .version) v) → acceptsChip (voiceCalled chip r .chip) n ≡ true
+  line-kept : (r : ReadVoice) → ((v : NumberedVoice) → r ≡ voice v → Told (chip .version) v) → acceptsChip (voiceCalled chip r .chip) n ≡ true
   line-kept (voice v) f = voice-kept v (f v refl)
   line-kept (malformed field) f = ok
 
@@ -49,6 +49,6 @@ module _ (chip : Chip) (n : ℕ) (ok : acceptsChip chip n ≡ true) (sized : Siz
   unfolding readVoiceCalled
   read-voice-kept queues text =
       let r = readVoice (chip .version) text in
-      cond-by fine (queuesLent queues) (withState chip (voiceCalled chip r) (answered chip NotAccepted)) (answered chip QueueBuffer)
-      (λ e. cond-by fine (stateAccepted chip) (voiceCalled chip r) (answered chip NotAccepted) (λ e. line-kept r (read-told (chip .version) text)) (λ e. ok))
+      cond-by fine (queuesLent queues) (withState chip (voiceCalled chip r) (lineAnswered chip NotAccepted)) (lineAnswered chip QueueBuffer)
+      (λ e. cond-by fine (stateAccepted chip) (voiceCalled chip r) (lineAnswered chip NotAccepted) (λ e. line-kept r (read-told (chip .version) text)) (λ e. ok))
       (λ e. ok)

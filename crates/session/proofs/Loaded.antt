@@ -8,9 +8,10 @@ use lib.IntN.{ℤ}
 use lib.ListN.{length, take, drop, length-take, length-drop}
 use lib.Seq.{sets, length-sets}
 use borrow.Rule.Slice.PartMut.{putMid}
+use Rattle.sizes.specs.Sizes.{fifoCapacity, numChannels, queueBuffer, wavetablesSize}
 use Rattle.num.specs.Lists.{part}
 use Rattle.voice.specs.declared.Channel.{Channel}
-use Rattle.voice_line.specs.Lines.{ReadVoice, voice, malformed, channelAfter, tableAfter, queueAfter}
+use Rattle.session_lines.specs.Lines.{ReadVoice, voice, malformed, channelAfter, tableAfter, queueAfter}
 use Rattle.voices.specs.Core.{channelAt, setChannel, setWavetables, storedChannel}
 use Rattle.voices.specs.Accepted.{SizedCore}
 use Rattle.voices.specs.Own.{Voice, voiceAt, queueAt, Changed}
@@ -41,9 +42,9 @@ changed-part f same l ys a n h e =
     let z : ys ≡ f (part l a n) = e ∙ ap (λ (k : ℕ). f (part l a k)) m in
     put-part l ys a n h (ap length z ∙ same (part l a n) ∙ long l a n h) ∙ ap (sets l a) z
 
-module _ (r : ReadVoice) (ch : ℕ) (h : ch < 8) where
+module _ (r : ReadVoice) (ch : ℕ) (h : ch < numChannels) where
   -- ---- as the code stores it
-  pub chip-loaded : (chip : Chip) (c : Channel) (t : List ℕ) → length (chip .core .wavetables) ≡ 2048 → c ≡ channelAfter r (channelAt (chip .core) ch)
+  pub chip-loaded : (chip : Chip) (c : Channel) (t : List ℕ) → length (chip .core .wavetables) ≡ wavetablesSize → c ≡ channelAfter r (channelAt (chip .core) ch)
       → t ≡ tableAfter r (take (ch * 256 + 256 - ch * 256) (drop (ch * 256) (chip .core .wavetables)))
       → _≡_ {A = Chip} (record { version = chip .version; core = setWavetables (setChannel (chip .core) ch c) (putMid (ch * 256) (ch * 256 + 256 - ch * 256) (chip .core .wavetables) t) }) (loadedChip chip ch r)
   unfolding loadedCore
@@ -51,17 +52,17 @@ module _ (r : ReadVoice) (ch : ℕ) (h : ch < 8) where
       ap₂ (λ (x : Channel) (y : List ℕ). record { version = chip .version; core = setWavetables (setChannel (chip .core) ch x) y }) e
       (changed-part (tableAfter r) (length-table r) (chip .core .wavetables) t (ch * 256) 256 (omega arith) f)
 
-  pub queues-loaded : (queues q : List ℤ) → length queues ≡ 16384 → q ≡ queueAfter r (take (ch * 2048 + 2048 - ch * 2048) (drop (ch * 2048) queues))
-      → putMid (ch * 2048) (ch * 2048 + 2048 - ch * 2048) queues q ≡ loadedQueues queues ch r
+  pub queues-loaded : (queues q : List ℤ) → length queues ≡ queueBuffer → q ≡ queueAfter r (take (ch * fifoCapacity + fifoCapacity - ch * fifoCapacity) (drop (ch * fifoCapacity) queues))
+      → putMid (ch * fifoCapacity) (ch * fifoCapacity + fifoCapacity - ch * fifoCapacity) queues q ≡ loadedQueues queues ch r
   unfolding loadedQueues
-  queues-loaded queues q n e = changed-part (queueAfter r) (length-queue r) queues q (ch * 2048) 2048 (omega arith) e
+  queues-loaded queues q n e = changed-part (queueAfter r) (length-queue r) queues q (ch * fifoCapacity) fifoCapacity (omega arith) e
 
   -- ---- what it makes of the eight voices
   pub loaded-changed : (k : Core) → SizedCore k → Changed k (loadedCore k ch r) ch (own.voice (channelAfter r (channelAt k ch)) (voiceAt k ch .fragments) (tableAfter r (tableAt k ch)))
   unfolding loadedCore storedChannel
   loaded-changed k z =
       let m = stored-changed k z ch h (channelAfter r (channelAt k ch)) false in
-      let n : length (k .wavetables) ≡ 2048 = z .wavetables in
+      let n : length (k .wavetables) ≡ wavetablesSize = z .wavetables in
       let w : length (tableAfter r (tableAt k ch)) ≡ 256 = length-table r (tableAt k ch) ∙ long (k .wavetables) (ch * 256) 256 (omega (arith, h, n)) in
       record {
         own = ap₂ (λ (v : Voice) (t : List ℕ). own.voice (v .channel) (v .fragments) t) (m .own) (width-own 256 (k .wavetables) (tableAfter r (tableAt k ch)) ch w (omega (arith, h, n)));
@@ -71,16 +72,16 @@ module _ (r : ReadVoice) (ch : ℕ) (h : ch < 8) where
 
   pub length-loaded : (queues : List ℤ) → length (loadedQueues queues ch r) ≡ length queues
   unfolding loadedQueues
-  length-loaded queues = length-sets queues (ch * 2048) (queueAfter r (queueAt queues ch))
+  length-loaded queues = length-sets queues (ch * fifoCapacity) (queueAfter r (queueAt queues ch))
 
-  module _ (queues : List ℤ) (n : length queues ≡ 16384) where
-    wide : length (queueAfter r (queueAt queues ch)) ≡ 2048
-    wide = length-queue r (queueAt queues ch) ∙ long queues (ch * 2048) 2048 (omega arith)
+  module _ (queues : List ℤ) (n : length queues ≡ queueBuffer) where
+    wide : length (queueAfter r (queueAt queues ch)) ≡ fifoCapacity
+    wide = length-queue r (queueAt queues ch) ∙ long queues (ch * fifoCapacity) fifoCapacity (omega arith)
 
     pub queue-own : queueAt (loadedQueues queues ch r) ch ≡ queueAfter r (queueAt queues ch)
     unfolding loadedQueues
-    queue-own = width-own 2048 queues (queueAfter r (queueAt queues ch)) ch wide (omega arith)
+    queue-own = width-own fifoCapacity queues (queueAfter r (queueAt queues ch)) ch wide (omega arith)
 
     pub queue-others : (j : ℕ) → (j ≡ ch → ⊥) → queueAt (loadedQueues queues ch r) j ≡ queueAt queues j
     unfolding loadedQueues
-    queue-others j d = width-other 2048 queues (queueAfter r (queueAt queues ch)) ch j wide d
+    queue-others j d = width-other fifoCapacity queues (queueAfter r (queueAt queues ch)) ch j wide d

@@ -4,12 +4,13 @@ use mathlib.Core.Bool.{Bool, true, false}
 use mathlib.Core.List.{List}
 use Prim.Native.Nat.{ℕ, _<_}
 use native.Mathlib.Omega.{arith}
+use Rattle.sizes.specs.Sizes.{numChannels}
 use Rattle.num.proofs.Choice.{never}
 use Rattle.version.specs.declared.SguVersion.{SguVersion}
-use Rattle.voice_line.specs.Lines.{Voice, ReadVoice, voice, malformed, readVoice, toldOf}
-use Rattle.voice_line.specs.declared.VoiceLine.{VoiceLine}
-use Rattle.voice_line.specs.declared.VoiceLine.the-variants as told
-use Rattle.voice_line.proofs.Taken.{read-told}
+use Rattle.session_lines.specs.Lines.{NumberedVoice, ReadVoice, voice, malformed, readVoice, toldOf}
+use Rattle.session_lines.specs.declared.VoiceLine.{VoiceLine}
+use Rattle.session_lines.specs.declared.VoiceLine.the-variants as told
+use Rattle.session_lines.proofs.Taken.{read-told}
 
 -- ---- a voice is not a fault, and is told by its number
 abbrev isVoice : VoiceLine → Bool
@@ -22,7 +23,7 @@ numberIn (told.Malformed field) = field
 
 -- what a reading is that tells of a voice, or of a fault
 module _ (P : ReadVoice → Type 0) where
-  pub by-voice : (r : ReadVoice) (ch : ℕ) → toldOf r ≡ told.Voice ch → ((v : Voice) → v .number ≡ ch → P (voice v)) → P r
+  pub by-voice : (r : ReadVoice) (ch : ℕ) → toldOf r ≡ told.Voice ch → ((v : NumberedVoice) → v .number ≡ ch → P (voice v)) → P r
   by-voice (voice v) ch e f = f v (ap numberIn e)
   by-voice (malformed field) ch e f = never (sym (ap isVoice e))
 
@@ -30,5 +31,5 @@ module _ (P : ReadVoice → Type 0) where
   by-fault (voice v) field e p = never (ap isVoice e)
   by-fault (malformed other) field e p = subst (λ (n : ℕ). P (malformed n)) (sym (ap numberIn e)) p
 
-pub read-named : (version : SguVersion) (text : List ℕ) (ch : ℕ) → toldOf (readVoice version text) ≡ told.Voice ch → ch < 8
-read-named version text ch e = by-voice (λ (r : ReadVoice). readVoice version text ≡ r → ch < 8) (readVoice version text) ch e (λ v q i. omega (arith, q, read-told version text v i .eight)) refl
+pub read-named : (version : SguVersion) (text : List ℕ) (ch : ℕ) → toldOf (readVoice version text) ≡ told.Voice ch → ch < numChannels
+read-named version text ch e = by-voice (λ (r : ReadVoice). readVoice version text ≡ r → ch < numChannels) (readVoice version text) ch e (λ v q i. omega (arith, q, read-told version text v i .eight)) refl

@@ -5,9 +5,10 @@ use Prim.Native.Nat.{ℕ}
 use lib.Dec.{eqb}
 use lib.IntN.{ℤ}
 use lib.ListN.{length}
-use Rattle.line.specs.declared.Written as lines
-use Rattle.line.specs.declared.Written.the-variants as line
-use Rattle.s3w2.specs.Refusals.{acceptsChip, largest}
+use Rattle.sizes.specs.Sizes.{queueBuffer, ramMost}
+use Rattle.line_fields.specs.declared.Written as lines
+use Rattle.line_fields.specs.declared.Written.the-variants as line
+use Rattle.s3w2.specs.Refusals.{acceptsChip}
 use Rattle.s3w2.specs.declared.Chip.{Chip}
 use Rattle.session.specs.declared.LineAnswer.{LineAnswer}
 use Rattle.session.specs.declared.LineAnswer.the-variants.{Done, Written, QueueBuffer, NotAccepted, TextBuffer, Malformed}
@@ -22,8 +23,8 @@ numbersOf NotAccepted = 3 ∷ []
 numbersOf TextBuffer = 15 ∷ []
 numbersOf (Malformed field) = 16 ∷ field ∷ []
 
-abbrev pub answered : Chip → LineAnswer → LineCalled
-answered chip answer = record { chip = chip; answer = answer }
+abbrev pub lineAnswered : Chip → LineAnswer → LineCalled
+lineAnswered chip answer = record { chip = chip; answer = answer }
 
 -- the length of the line that was written, or that there is no room for it
 abbrev pub wrote : lines.Written → LineAnswer
@@ -34,15 +35,15 @@ wrote line.TextBuffer = TextBuffer
 
 -- the calls are lent no RAM
 abbrev pub stateAccepted : Chip → Bool
-stateAccepted chip = acceptsChip chip largest
+stateAccepted chip = acceptsChip chip ramMost
 
 abbrev pub queuesLent : List ℤ → Bool
-queuesLent queues = eqb (length queues) 16384
+queuesLent queues = eqb (length queues) queueBuffer
 
 -- what a call on an accepted chip makes
 abbrev pub withState : {A : Type 0} → Chip → A → A → A
 withState chip done refused = cond (stateAccepted chip) done refused
 
 -- and one that is lent the queue buffer
-abbrev pub withQueues : {A : Type 0} → Chip → List ℤ → A → A → A → A
-withQueues chip queues done notAccepted notLent = cond (queuesLent queues) (withState chip done notAccepted) notLent
+abbrev pub withLentQueues : {A : Type 0} → Chip → List ℤ → A → A → A → A
+withLentQueues chip queues done notAccepted notLent = cond (queuesLent queues) (withState chip done notAccepted) notLent

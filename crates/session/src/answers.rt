@@ -1,23 +1,22 @@
 // What the calls answer.
 ghost use mathlib.Core.Path.{_≡_};
 ghost use lib.ListN.{getD};
-ghost use Rattle.session.specs.Answers.{numbersOf, wrote, answered, stateAccepted};
+ghost use Rattle.session.specs.Answers.{numbersOf, wrote, lineAnswered, stateAccepted};
 use crate::LineAnswer;
 use crate::LineCalled;
-use line::Written;
+use line_fields::Written;
 use s3w2::Chip;
+use sizes::RAM_MOST;
 
 // No address of an accepted state is past the largest RAM, so it stands for a RAM that is not lent.
-const LARGEST: usize = 16777216;
-
 pub(crate) fn accepted(chip: Chip) -> bool
     ensures { λ r. ⌜ r ≡ stateAccepted chip ⌝ }
 {
-    chip.accepts(LARGEST)
+    chip.accepts(RAM_MOST)
 }
 
 pub(crate) fn answers(chip: Chip, answer: LineAnswer) -> LineCalled
-    ensures { λ r. ⌜ r ≡ answered chip answer ⌝ }
+    ensures { λ r. ⌜ r ≡ lineAnswered chip answer ⌝ }
 {
     LineCalled { chip, answer }
 }

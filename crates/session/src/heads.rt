@@ -7,7 +7,7 @@ use crate::answers::accepted;
 use crate::answers::answers;
 use crate::answers::told;
 use s3w2::Chip;
-use voice_line::HeadLine;
+use session_lines::HeadLine;
 
 pub fn write_head(chip: Chip, out: &mut [u8]) -> LineAnswer
     ensures { λ r. ⌜ r ≡ writeHeadAnswer chip (now (out .entry)) ⌝ }
@@ -17,7 +17,7 @@ pub fn write_head(chip: Chip, out: &mut [u8]) -> LineAnswer
         return LineAnswer::NotAccepted;
     }
     let version = chip.version;
-    told(voice_line::write_head(version, out))
+    told(session_lines::write_head(version, out))
 }
 
 // What `set_version` does.
@@ -27,7 +27,7 @@ pub fn read_head(chip: Chip, text: &[u8]) -> LineCalled
     if !accepted(chip) {
         return answers(chip, LineAnswer::NotAccepted);
     }
-    let head = voice_line::read_head(text);
+    let head = session_lines::read_head(text);
     match head {
         HeadLine::Version(version) => {
             let called = chip.set_version(version);

@@ -2,18 +2,21 @@
 ghost use mathlib.Core.Path.{_≡_};
 ghost use Prim.Native.Nat.{_<_};
 ghost use lib.ListN.{length};
-ghost use Rattle.voice_line.specs.Lines.{readVoice};
+ghost use Rattle.sizes.specs.Sizes.{numChannels, queueBuffer};
+ghost use Rattle.session_lines.specs.Lines.{readVoice};
 ghost use Rattle.session.specs.Voices.{loadedChip, loadedQueues, readVoiceCalled, readVoiceQueues};
 use crate::LineAnswer;
 use crate::LineCalled;
 use crate::answers::accepted;
 use crate::answers::answers;
 use s3w2::Chip;
-use voice_line::VoiceLine;
+use session_lines::VoiceLine;
+use sizes::FIFO_CAPACITY;
+use sizes::QUEUE_BUFFER;
 
 // The line is read into voice ch, which is lent its own wavetable and queue entries; its fragments stay, its cache is empty.
 fn load(chip: Chip, queues: &mut [i16], ch: usize, text: &[u8]) -> Chip
-    requires { ⌜ (ch < 8) × (length (now queues) ≡ 16384) ⌝ }
+    requires { ⌜ (ch < numChannels) × (length (now queues) ≡ queueBuffer) ⌝ }
     ensures { λ r. ⌜ r ≡ loadedChip chip ch (readVoice (chip .version) (now (text .entry))) ⌝ }
     ensures { λ _. ⌜ now (queues .exit) ≡ loadedQueues (now (queues .entry)) ch (readVoice (chip .version) (now (text .entry))) ⌝ }
 {
@@ -23,10 +26,10 @@ fn load(chip: Chip, queues: &mut [i16], ch: usize, text: &[u8]) -> Chip
     let mut tables = core.wavetables;
     let at = ch * 256;
     let to = at + 256;
-    let first = ch * 2048;
-    let end = first + 2048;
+    let first = ch * FIFO_CAPACITY;
+    let end = first + FIFO_CAPACITY;
     let c = channels[ch];
-    let d = voice_line::read_voice(
+    let d = session_lines::read_voice(
         c,
         version,
         text,
@@ -43,14 +46,14 @@ pub fn read_voice(chip: Chip, queues: &mut [i16], text: &[u8]) -> LineCalled
     ensures { λ r. ⌜ r ≡ readVoiceCalled chip (now (queues .entry)) (now (text .entry)) ⌝ }
     ensures { λ _. ⌜ now (queues .exit) ≡ readVoiceQueues chip (now (queues .entry)) (now (text .entry)) ⌝ }
 {
-    if queues.len() != 16384 {
+    if queues.len() != QUEUE_BUFFER {
         return answers(chip, LineAnswer::QueueBuffer);
     }
     if !accepted(chip) {
         return answers(chip, LineAnswer::NotAccepted);
     }
     let version = chip.version;
-    let line = voice_line::check_voice(version, text);
+    let line = session_lines::check_voice(version, text);
     match line {
         VoiceLine::Voice(ch) => answers(load(chip, queues, ch, text), LineAnswer::Done),
         VoiceLine::Malformed(field) => answers(chip, LineAnswer::Malformed(field)),

@@ -6,42 +6,43 @@ use native.Mathlib.Omega.{arith}
 use lib.IntN.{ℤ}
 use lib.ListN.{length}
 use lib.Seq.{sets}
+use Rattle.sizes.specs.Sizes.{fifoCapacity}
 use Rattle.version.specs.declared.SguVersion.{SguVersion}
 use Rattle.ticks.proofs.Ranges.{accepted-oscillator, oscillator-accepted}
 use Rattle.voice.specs.declared.Channel.{Channel}
-use Rattle.voice_line.specs.Numbers.{channelOf}
-use Rattle.voice_line.specs.Lines.{Voice, sessionOf, ReadVoice, voice, malformed, voiceOf, readVoice, channelAfter, tableAfter, queueAfter}
-use Rattle.voice_line.proofs.Heads.{head-back}
-use Rattle.voice_line.proofs.Storing.{size-samples}
-use Rattle.voice_line.proofs.Back.{Whole}
-use Rattle.voice_line.proofs.Session.{voice-back}
-use Rattle.voice_line.proofs.Taken.{read-told}
+use Rattle.session_lines.specs.Numbers.{channelFrom}
+use Rattle.session_lines.specs.Lines.{NumberedVoice, sessionOf, ReadVoice, voice, malformed, voiceOf, readVoice, channelAfter, tableAfter, queueAfter}
+use Rattle.session_lines.proofs.Heads.{head-back}
+use Rattle.session_lines.proofs.Storing.{size-samples}
+use Rattle.session_lines.proofs.Back.{Whole}
+use Rattle.session_lines.proofs.Session.{voice-back}
+use Rattle.session_lines.proofs.Taken.{read-told}
 use Rattle.slots.specs.Slots.{Slot, channelWith, slotLoaded}
 use Rattle.plain_chip.specs.Voices.{PlainVoice}
 use Rattle.plain_chip.specs.Good.{FitVoice}
 use Rattle.call_lists.specs.Texts as texts
 use Rattle.call_lists.specs.Texts.{TextsOk, Told}
-use Rattle.session_texts.specs.Session.{fieldsOf, voiceRead, headRead, session}
+use Rattle.session_texts.specs.Session.{plainVoiceOf, voiceRead, headRead, session}
 use Rattle.session_texts.proofs.Written.{own-line}
 
 -- ---- the channel that is read has its fields, an empty cache and the queue's head at 0
-pub channel-told : (f : ℕ → ℕ) → voiceOf f .channel ≡ channelWith (fieldsOf (voiceOf f))
-unfolding voiceOf channelOf
+pub channel-told : (f : ℕ → ℕ) → voiceOf f .channel ≡ channelWith (plainVoiceOf (voiceOf f))
+unfolding voiceOf channelFrom
 channel-told f =
-    ap (λ (n : ℕ). record { oscillator = channelOf f .oscillator; fifo = record { head = 0; count = n; held = channelOf f .fifo .held; hold = channelOf f .fifo .hold; sub = channelOf f .fifo .sub; latch = channelOf f .fifo .latch }; stream = channelOf f .stream; pcm = channelOf f .pcm; registers = channelOf f .registers }) (sym (size-samples f))
+    ap (λ (n : ℕ). record { oscillator = channelFrom f .oscillator; fifo = record { head = 0; count = n; held = channelFrom f .fifo .held; hold = channelFrom f .fifo .hold; sub = channelFrom f .fifo .sub; latch = channelFrom f .fifo .latch }; stream = channelFrom f .stream; pcm = channelFrom f .pcm; registers = channelFrom f .registers }) (sym (size-samples f))
 
 -- a voice whose line is read: its channel, wavetable and entries are those of its fields
 pub loaded-told : (f : ℕ → ℕ) (s : Slot)
-    → _≡_ {A = Slot} (record { channel = channelAfter (voice (voiceOf f)) (s .channel); fragments = s .fragments; wavetable = tableAfter (voice (voiceOf f)) (s .wavetable); queue = queueAfter (voice (voiceOf f)) (s .queue) }) (slotLoaded (fieldsOf (voiceOf f)) s)
+    → _≡_ {A = Slot} (record { channel = channelAfter (voice (voiceOf f)) (s .channel); fragments = s .fragments; wavetable = tableAfter (voice (voiceOf f)) (s .wavetable); queue = queueAfter (voice (voiceOf f)) (s .queue) }) (slotLoaded (plainVoiceOf (voiceOf f)) s)
 unfolding slotLoaded
 loaded-told f s = ap (λ (c : Channel). record { channel = c; fragments = s .fragments; wavetable = sets (s .wavetable) 0 (voiceOf f .wavetable); queue = sets (s .queue) 0 (voiceOf f .samples) }) (channel-told f)
 
 -- ---- the fields of a voice that is made of fields
-fields-back : (ch : ℕ) (v : PlainVoice) → length (v .line .line) ≤ 2048 → fieldsOf (sessionOf ch (channelWith v) (v .wavetable) (v .line .line)) ≡ v
-fields-back ch v h = ap (λ (l : List ℤ). record { registers = v .registers; pcm = v .pcm; oscillator = v .oscillator; line = record { line = l; held = v .line .held; hold = v .line .hold; sub = v .line .sub; latch = v .line .latch }; wavetable = v .wavetable }) (own-line v h)
+fields-back : (ch : ℕ) (v : PlainVoice) → length (v .queue .samples) ≤ fifoCapacity → plainVoiceOf (sessionOf ch (channelWith v) (v .wavetable) (v .queue .samples)) ≡ v
+fields-back ch v h = ap (λ (l : List ℤ). record { registers = v .registers; pcm = v .pcm; oscillator = v .oscillator; queue = record { samples = l; held = v .queue .held; hold = v .queue .hold; sub = v .queue .sub; latch = v .queue .latch }; wavetable = v .wavetable }) (own-line v h)
 
 -- ---- a line tells of one of the eight voices, its fields in their ranges
-whole-fields : (version : SguVersion) (v : Voice) → Whole version (v .channel) (v .wavetable) (v .samples) → length (v .samples) ≡ v .channel .fifo .count → FitVoice version (fieldsOf v)
+whole-fields : (version : SguVersion) (v : NumberedVoice) → Whole version (v .channel) (v .wavetable) (v .samples) → length (v .samples) ≡ v .channel .fifo .count → FitVoice version (plainVoiceOf v)
 whole-fields version v w many = record {
   registers = w .accepted;
   pcm = w .addresses;
@@ -59,7 +60,7 @@ whole-fields version v w many = record {
   bytes = record { each = w .bytes };
 }
 
-fields-whole : (version : SguVersion) (v : PlainVoice) → FitVoice version v → Whole version (channelWith v) (v .wavetable) (v .line .line)
+fields-whole : (version : SguVersion) (v : PlainVoice) → FitVoice version v → Whole version (channelWith v) (v .wavetable) (v .queue .samples)
 fields-whole version v f = record {
   registers = f .fitRegisters;
   accepted = f .registers;
@@ -74,7 +75,7 @@ fields-whole version v f = record {
   table = f .table;
 }
 
-ranges : (version : SguVersion) (text : List ℕ) (v : Voice) → readVoice version text ≡ voice v → (v .number < 8) × FitVoice version (fieldsOf v)
+ranges : (version : SguVersion) (text : List ℕ) (v : NumberedVoice) → readVoice version text ≡ voice v → (v .number < 8) × FitVoice version (plainVoiceOf v)
 ranges version text v e = let t = read-told version text v e in (omega (arith, t .eight), whole-fields version v (t .whole) (t .many))
 
 -- ---- what a session's lines promise
@@ -82,9 +83,9 @@ pub session-is-ok : TextsOk session
 session-is-ok = record {
   head-back = λ version. ap headRead (head-back version);
   told = λ version text. go version (readVoice version text) (ranges version text);
-  voice-back = λ version ch v h fit. ap voiceRead (voice-back version ch (channelWith v) (v .wavetable) (v .line .line) (omega arith) (fields-whole version v fit)) ∙ ap (texts.voice ch) (fields-back ch v (fit .full));
+  voice-back = λ version ch v h fit. ap voiceRead (voice-back version ch (channelWith v) (v .wavetable) (v .queue .samples) (omega arith) (fields-whole version v fit)) ∙ ap (texts.voice ch) (fields-back ch v (fit .full));
 }
   where
-    go : (version : SguVersion) (r : ReadVoice) → ((v : Voice) → r ≡ voice v → (v .number < 8) × FitVoice version (fieldsOf v)) → Told version (voiceRead r)
+    go : (version : SguVersion) (r : ReadVoice) → ((v : NumberedVoice) → r ≡ voice v → (v .number < 8) × FitVoice version (plainVoiceOf v)) → Told version (voiceRead r)
     go version (voice v) h = h v refl
     go version (malformed field) h = tt

@@ -6,33 +6,34 @@ use native.Mathlib.Omega.{arith}
 use lib.IntN.{ℤ}
 use lib.ListN.{length}
 use lib.Seq.{take-length}
+use Rattle.sizes.specs.Sizes.{fifoCapacity}
 use Rattle.version.specs.declared.SguVersion.{SguVersion}
 use Rattle.registers.specs.Queue.{queued, setCount}
 use Rattle.registers.proofs.Ring.{length-queued, queued-part}
 use Rattle.stream.specs.Cache.{emptied}
 use Rattle.voice.specs.Channel.{setFifo, setStream}
-use Rattle.voice_line.specs.Numbers.{lineOf}
-use Rattle.voice_line.specs.Lines.{voiceText, atStart, sessionOf}
-use Rattle.voice_line.proofs.Session.{same-text}
+use Rattle.session_lines.specs.Numbers.{queuedOf}
+use Rattle.session_lines.specs.Lines.{voiceText, atStart, sessionOf}
+use Rattle.session_lines.proofs.Session.{same-text}
 use Rattle.slots.specs.Slots.{Slot, plainOf, channelWith}
 use Rattle.plain_chip.specs.Voices.{PlainVoice}
 use Rattle.slots.specs.Good.{SlotOk}
 use Rattle.session_texts.specs.Session.{plainText}
 
 -- the queue of a voice with these fields is their list
-pub own-line : (v : PlainVoice) → length (v .line .line) ≤ 2048 → lineOf (channelWith v .fifo) (v .line .line) ≡ v .line .line
+pub own-line : (v : PlainVoice) → length (v .queue .samples) ≤ fifoCapacity → queuedOf (channelWith v .fifo) (v .queue .samples) ≡ v .queue .samples
 own-line v h =
-    let l = v .line .line in
-    let e : min (length l) 2048 ≡ length l = omega arith in
+    let l = v .queue .samples in
+    let e : min (length l) fifoCapacity ≡ length l = omega arith in
     ap (queued l 0) e ∙ queued-part l 0 (length l) (omega arith) (omega arith) ∙ take-length l
 
 module _ (version : SguVersion) (ram : List ℕ) (s : Slot) (ok : SlotOk version ram s) where
   abbrev queue : List ℤ
   queue = queued (s .queue) (s .channel .fifo .head) (s .channel .fifo .count)
 
-  told-line : lineOf (s .channel .fifo) (s .queue) ≡ queue
+  told-line : queuedOf (s .channel .fifo) (s .queue) ≡ queue
   told-line =
-      let e : min (s .channel .fifo .count) 2048 ≡ s .channel .fifo .count = omega (arith, ok .accepted .fifo .full) in
+      let e : min (s .channel .fifo .count) fifoCapacity ≡ s .channel .fifo .count = omega (arith, ok .accepted .fifo .full) in
       ap (queued (s .queue) (s .channel .fifo .head)) e
 
   long : length queue ≡ s .channel .fifo .count

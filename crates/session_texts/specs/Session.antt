@@ -1,31 +1,31 @@
 -- A session's lines over the fields of plain voices.
 use mathlib.Core.List.{List}
 use Prim.Native.Nat.{ℕ}
-use Rattle.voice_line.specs.Head as heads
-use Rattle.voice_line.specs.Lines.{Voice, voiceText, ReadVoice, voice, malformed, readVoice}
-use Rattle.voice_line.specs.declared.HeadLine.{HeadLine}
-use Rattle.voice_line.specs.declared.HeadLine.the-variants.{Version, Malformed}
+use Rattle.session_lines.specs.Head as heads
+use Rattle.session_lines.specs.Lines.{NumberedVoice, voiceText, ReadVoice, voice, malformed, readVoice}
+use Rattle.session_lines.specs.declared.HeadLine.{HeadLine}
+use Rattle.session_lines.specs.declared.HeadLine.the-variants.{Version, Malformed}
 use Rattle.plain_chip.specs.Voices.{PlainVoice}
 use Rattle.slots.specs.Slots.{channelWith}
 use Rattle.call_lists.specs.Texts as texts
 use Rattle.call_lists.specs.Texts.{Texts, VoiceRead, HeadRead}
 
 -- the fields that a line tells
-abbrev pub fieldsOf : Voice → PlainVoice
-fieldsOf v = record {
+abbrev pub plainVoiceOf : NumberedVoice → PlainVoice
+plainVoiceOf v = record {
   registers = v .channel .registers;
   pcm = v .channel .pcm;
   oscillator = v .channel .oscillator;
-  line = record { line = v .samples; held = v .channel .fifo .held; hold = v .channel .fifo .hold; sub = v .channel .fifo .sub; latch = v .channel .fifo .latch };
+  queue = record { samples = v .samples; held = v .channel .fifo .held; hold = v .channel .fifo .hold; sub = v .channel .fifo .sub; latch = v .channel .fifo .latch };
   wavetable = v .wavetable;
 }
 
 -- the line of a voice with these fields
 abbrev pub plainText : ℕ → PlainVoice → List ℕ
-plainText ch v = voiceText ch (channelWith v) (v .wavetable) (v .line .line)
+plainText ch v = voiceText ch (channelWith v) (v .wavetable) (v .queue .samples)
 
 abbrev pub voiceRead : ReadVoice → VoiceRead
-voiceRead (voice v) = texts.voice (v .number) (fieldsOf v)
+voiceRead (voice v) = texts.voice (v .number) (plainVoiceOf v)
 voiceRead (malformed field) = VoiceRead.faulty field
 
 abbrev pub headRead : HeadLine → HeadRead

@@ -8,10 +8,11 @@ use lib.IntN.{ℤ, pos}
 use lib.ListN.{length, getD, set, length-set}
 use mir.Syntax.{w16, w32}
 use mir.Val.{toZ, ofZ, SFits}
+use Rattle.sizes.specs.Sizes.{numChannels, stemsPerFrame}
 use Rattle.num.specs.Integers.{clamp16}
 use Rattle.tone.specs.Mix.{saturatingAdd, wrappingAdd}
 use Rattle.num.proofs.Integers.{back}
-use Rattle.sides.specs.Sides.{sideSum, saturating, wrapping, framesIn, addedTo, Room}
+use Rattle.sides.specs.Sides.{sideSum, saturating, wrapping, framesIn, addedTo, StemRoom}
 
 module _ (plus : ℤ → ℤ → ℤ) (stems : List ℤ) (hand first : ℕ) (side : List ℤ) where
   pub added-length : (n : ℕ) → length (addedTo plus n stems hand first side) ≡ length side
@@ -20,7 +21,7 @@ module _ (plus : ℤ → ℤ → ℤ) (stems : List ℤ) (hand first : ℕ) (sid
   added-length (suc n) = simp length-set (added-length n)
 
   -- from what the two calls of a turn say
-  pub added-next : (n : ℕ) (l : List ℤ) (sum y : ℤ) → l ≡ addedTo plus n stems hand first side → sum ≡ sideSum 8 stems (16 * n + hand) → y ≡ plus (getD l (first + n) (pos 0)) sum
+  pub added-next : (n : ℕ) (l : List ℤ) (sum y : ℤ) → l ≡ addedTo plus n stems hand first side → sum ≡ sideSum numChannels stems (stemsPerFrame * n + hand) → y ≡ plus (getD l (first + n) (pos 0)) sum
       → set l (first + n) y ≡ addedTo plus (n + 1) stems hand first side
   unfolding addedTo
   added-next n l sum y el es ey = rw (ey, es, el, add-one n) refl
@@ -36,10 +37,10 @@ wrapping-is held sum out fh fs fo eo = rw (back w32 out fo, eo, back w32 held fh
 
 -- the frames that are added have stems and room on both sides
 module _ (stems left right first count : ℕ) (e : count ≡ framesIn stems left right first) where
-  pub room-left : Room count 0 first stems left
+  pub room-left : StemRoom count 0 first stems left
   unfolding framesIn
   room-left = record { one = omega arith; enough = omega arith; there = omega arith }
 
-  pub room-right : Room count 1 first stems right
+  pub room-right : StemRoom count 1 first stems right
   unfolding framesIn
   room-right = record { one = omega arith; enough = omega arith; there = omega arith }

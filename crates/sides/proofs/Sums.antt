@@ -8,6 +8,7 @@ use lib.IntN.{ℤ, pos, _+ℤ_, natAbs}
 use lib.ListN.{getD}
 use mir.Syntax.{w16, w32}
 use mir.Val.{toZ, ofZ, SFits}
+use Rattle.sizes.specs.Sizes.{numChannels}
 use Rattle.num.proofs.Integers.{back}
 use Rattle.num.proofs.Fit.{widen16-32, fit-abs, abs-fit, abs-add}
 use Rattle.sides.specs.Sides.{sideSum}
@@ -24,7 +25,7 @@ module _ (stems : List ℤ) (from ch sum : ℕ) where
     plain : wide ≡ x
     plain = ap (λ (z : ℤ). toZ w32 (ofZ w32 z)) (back w16 x fx) ∙ back w32 x (widen16-32 fx)
 
-    module _ (h : ch < 8) (s : natAbs (toZ w32 sum) ≤ 32768 * ch) where
+    module _ (h : ch < numChannels) (s : natAbs (toZ w32 sum) ≤ 32768 * ch) where
       pub sum-small : natAbs (toZ w32 sum +ℤ wide) ≤ 32768 * (ch + 1)
       sum-small = rw plain (omega (arith, s, abs-add (toZ w32 sum) x, abs-fit w16 fx))
 

@@ -3,6 +3,7 @@ use mathlib.Core.List.{List}
 use Prim.Native.Nat.{ℕ, zero, suc, _+_, _-_, _*_, _/_, _≤_, min}
 use lib.IntN.{ℤ, pos, _+ℤ_}
 use lib.ListN.{getD, set}
+use Rattle.sizes.specs.Sizes.{numChannels, stemsPerFrame}
 use Rattle.num.specs.Integers.{clamp16}
 use Rattle.tone.specs.Mix.{saturatingAdd, wrappingAdd}
 
@@ -27,10 +28,10 @@ unfoldable pub addedTo : (ℤ → ℤ → ℤ) → ℕ → List ℤ → ℕ → 
 addedTo plus zero stems hand first side = side
 addedTo plus (suc n) stems hand first side =
     let l = addedTo plus n stems hand first side in
-    set l (first + n) (plus (getD l (first + n) (pos 0)) (sideSum 8 stems (16 * n + hand)))
+    set l (first + n) (plus (getD l (first + n) (pos 0)) (sideSum numChannels stems (stemsPerFrame * n + hand)))
 
 -- stems and room for n frames
-pub record Room (n hand first stems side : ℕ) : Type 0 where
+pub record StemRoom (n hand first stems side : ℕ) : Type 0 where
   pub one : hand ≤ 1
-  pub enough : 16 * n ≤ stems
+  pub enough : stemsPerFrame * n ≤ stems
   pub there : n ≤ side - first

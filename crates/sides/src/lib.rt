@@ -2,12 +2,14 @@
 ghost use mathlib.Core.Path.{_≡_};
 ghost use Prim.Native.Nat.{_+_, _≤_};
 ghost use lib.ListN.{length};
-ghost use Rattle.sides.specs.Sides.{sideSum, framesIn, saturating, wrapping, addedTo, Room};
+ghost use Rattle.sizes.specs.Sizes.{numChannels};
+ghost use Rattle.sides.specs.Sides.{sideSum, framesIn, saturating, wrapping, addedTo, StemRoom};
+use sizes::STEMS;
 
 // The sum of every second stem of a frame, from a place on.
 fn side_of(stems: &[i16], from: usize) -> i32
     requires { ⌜ from + 15 ≤ length (now stems) ⌝ }
-    ensures { λ r. ⌜ r ≡ sideSum 8 (now (stems .entry)) from ⌝ }
+    ensures { λ r. ⌜ r ≡ sideSum numChannels (now (stems .entry)) from ⌝ }
 {
     let mut sum = 0;
     for ch in 0usize..8 {
@@ -29,24 +31,24 @@ fn frames_in(stems: usize, left: usize, right: usize, first: usize) -> usize
 
 // Each frame's side is clamped, then added to a side from a place on; the sums saturate.
 fn add_side(stems: &[i16], hand: usize, side: &mut [i16], first: usize, count: usize)
-    requires { ⌜ Room count hand first (length (now stems)) (length (now side)) ⌝ }
+    requires { ⌜ StemRoom count hand first (length (now stems)) (length (now side)) ⌝ }
     ensures { λ _. ⌜ now (side .exit) ≡ addedTo saturating count (now (stems .entry)) hand first (now (side .entry)) ⌝ }
 {
     for i in 0..count {
         let at = first + i;
-        let sum = tone::saturate_output(side_of(stems, 16 * i + hand));
+        let sum = tone::saturate_output(side_of(stems, STEMS * i + hand));
         side[at] = tone::saturating_add(side[at], sum);
     }
 }
 
 // The same on a side of 32 bits; the sums wrap.
 fn add_side_i32(stems: &[i16], hand: usize, side: &mut [i32], first: usize, count: usize)
-    requires { ⌜ Room count hand first (length (now stems)) (length (now side)) ⌝ }
+    requires { ⌜ StemRoom count hand first (length (now stems)) (length (now side)) ⌝ }
     ensures { λ _. ⌜ now (side .exit) ≡ addedTo wrapping count (now (stems .entry)) hand first (now (side .entry)) ⌝ }
 {
     for i in 0..count {
         let at = first + i;
-        let sum = side_of(stems, 16 * i + hand);
+        let sum = side_of(stems, STEMS * i + hand);
         side[at] = tone::wrapping_add(side[at], sum);
     }
 }

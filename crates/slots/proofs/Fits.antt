@@ -17,7 +17,7 @@ use Rattle.registers.specs.Queue.{defaultFifo, FitFifo, FitEntries}
 use Rattle.registers.proofs.Ranges.{write-fits, waveform-fits, write-pcm-fits, pushed-fits, push-entries-fit}
 use Rattle.registers.proofs.Ring.{length-pushed}
 use Rattle.ticks.proofs.Ranges.{default-fits}
-use Rattle.voice.specs.Channel.{defaultChannel, setVersion}
+use Rattle.voice.specs.Channel.{defaultChannel, setChannelVersion}
 use Rattle.voice.specs.Kinds.{sampleOf}
 use Rattle.voice.specs.Writes.{waveformWritten, restarted, latchWritten, sampleWritten, sampleEntries, sampleControlWritten, writeControl, writeControlEntries, writePcmReg}
 use Rattle.voice.specs.Reads.{afterRead}
@@ -46,8 +46,8 @@ entries-replicate n = record { each = go n }
 
 -- ---- writes and reads
 module _ (c : Channel) (f : FitChannel c) where
-  pub version-fits : (version : SguVersion) → FitChannel (setVersion c version)
-  unfolding setVersion
+  pub version-fits : (version : SguVersion) → FitChannel (setChannelVersion c version)
+  unfolding setChannelVersion
   version-fits version = record { registers = waveform-fits (c .registers) _ (f .registers); pcm = f .pcm; oscillator = f .oscillator; fifo = default-fifo-fits }
 
   module _ (version : SguVersion) (value : ℕ) (h : value < 256) where

@@ -9,6 +9,7 @@ use lib.ListN.{length, getD, take, drop, set, drop-of-length-le}
 use lib.Seq.{sets, sets-eq, length-sets, take-at}
 use mir.Syntax.{w16}
 use mir.Val.{SFits}
+use Rattle.sizes.specs.Sizes.{fifoCapacity}
 use Rattle.num.proofs.Integers.{fit}
 use Rattle.num.proofs.Lists.{each-set}
 use Rattle.version.specs.declared.SguVersion.{SguVersion}
@@ -35,11 +36,11 @@ put-fits [] l at f g = g
 put-fits (x ∷ xs) l at f g = put-fits xs (set l at x) (suc at) (record { each = λ i. f .each (suc i) }) (record { each = each-set (SFits w16) (pos 0) x (f .each 0) l (g .each) at })
 
 -- ---- the voice
-module _ (version : SguVersion) (v : PlainVoice) (s : Slot) (f : FitVoice version v) (table : length (s .wavetable) ≡ 256) (room : length (s .queue) ≡ 2048) where
-  line-loaded : queued (sets (s .queue) 0 (v .line .line)) 0 (length (v .line .line)) ≡ v .line .line
+module _ (version : SguVersion) (v : PlainVoice) (s : Slot) (f : FitVoice version v) (table : length (s .wavetable) ≡ 256) (room : length (s .queue) ≡ fifoCapacity) where
+  line-loaded : queued (sets (s .queue) 0 (v .queue .samples)) 0 (length (v .queue .samples)) ≡ v .queue .samples
   line-loaded =
-      queued-part (sets (s .queue) 0 (v .line .line)) 0 (length (v .line .line)) (omega (arith, f .full)) (let e = length-sets (s .queue) 0 (v .line .line) in omega (arith, f .full, e))
-      ∙ put-first (s .queue) (v .line .line) (omega (arith, f .full))
+      queued-part (sets (s .queue) 0 (v .queue .samples)) 0 (length (v .queue .samples)) (omega (arith, f .full)) (let e = length-sets (s .queue) 0 (v .queue .samples) in omega (arith, f .full, e))
+      ∙ put-first (s .queue) (v .queue .samples) (omega (arith, f .full))
 
   pub same-loaded : plainOf (slotLoaded v s) ≡ v
   unfolding slotLoaded
@@ -47,11 +48,11 @@ module _ (version : SguVersion) (v : PlainVoice) (s : Slot) (f : FitVoice versio
     registers = v .registers;
     pcm = v .pcm;
     oscillator = v .oscillator;
-    line = record { line = line-loaded i; held = v .line .held; hold = v .line .hold; sub = v .line .sub; latch = v .line .latch };
+    queue = record { samples = line-loaded i; held = v .queue .held; hold = v .queue .hold; sub = v .queue .sub; latch = v .queue .latch };
     wavetable = put-whole (s .wavetable) (v .wavetable) (f .table ∙ sym table) i;
   }
 
-pub ok-loaded : (version : SguVersion) (ram : List ℕ) (v : PlainVoice) (s : Slot) → FitVoice version v → length (s .fragments) ≡ 128 → length (s .wavetable) ≡ 256 → length (s .queue) ≡ 2048 → FitEntries (s .queue)
+pub ok-loaded : (version : SguVersion) (ram : List ℕ) (v : PlainVoice) (s : Slot) → FitVoice version v → length (s .fragments) ≡ 128 → length (s .wavetable) ≡ 256 → length (s .queue) ≡ fifoCapacity → FitEntries (s .queue)
     → SlotOk version ram (slotLoaded v s)
 unfolding slotLoaded acceptsStream
 ok-loaded version ram v s f long table room entries =
@@ -62,8 +63,8 @@ ok-loaded version ram v s f long table room entries =
       fits = record { registers = f .fitRegisters; pcm = f .fitPcm; oscillator = f .fitOscillator; fifo = record { sample = f .held; byte = f .latch } };
       table = ap length w ∙ f .table;
       bytes = subst Bytes (sym w) (f .bytes);
-      room = length-sets (s .queue) 0 (v .line .line) ∙ room;
-      entries = put-fits (v .line .line) (s .queue) 0 (f .samples) entries;
+      room = length-sets (s .queue) 0 (v .queue .samples) ∙ room;
+      entries = put-fits (v .queue .samples) (s .queue) 0 (f .samples) entries;
     }
 
 -- ---- the fields of a good voice
@@ -77,7 +78,7 @@ cons-fits x l h f = record { each = go }
 queued-fits : (q : List ℤ) (h n : ℕ) → FitEntries q → FitEntries (queued q h n)
 unfolding queued
 queued-fits q h zero f = record { each = λ i. fit w16 _ (omega arith) (omega arith) }
-queued-fits q h (suc n) f = cons-fits (getD q (h % 2048) (pos 0)) (queued q (h + 1) n) (f .each (h % 2048)) (queued-fits q (h + 1) n f)
+queued-fits q h (suc n) f = cons-fits (getD q (h % fifoCapacity) (pos 0)) (queued q (h + 1) n) (f .each (h % fifoCapacity)) (queued-fits q (h + 1) n f)
 
 pub fit-plain : (version : SguVersion) (ram : List ℕ) (s : Slot) → SlotOk version ram s → FitVoice version (plainOf s)
 fit-plain version ram s ok = record {

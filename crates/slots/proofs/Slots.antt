@@ -4,6 +4,7 @@ use mathlib.Core.List.{List}
 use Prim.Native.Nat.{ℕ}
 use lib.IntN.{pos}
 use lib.ListN.{length, replicate, length-replicate}
+use Rattle.sizes.specs.Sizes.{fifoCapacity}
 use Rattle.version.specs.declared.SguVersion.{SguVersion}
 use Rattle.slots.specs.Slots.{emptySlot, plainOf}
 use Rattle.slots.specs.Models.{slots}
@@ -17,11 +18,11 @@ use Rattle.slots.proofs.Ticks.{same-tick}
 use Rattle.plain_chip.proofs.Sims.{Sim}
 
 pub ok-empty : (version : SguVersion) (ram : List ℕ) → SlotOk version ram emptySlot
-ok-empty version ram = ok-fresh version ram (replicate 2048 (pos 0)) (length-replicate 2048 (pos 0)) (entries-replicate 2048)
+ok-empty version ram = ok-fresh version ram (replicate fifoCapacity (pos 0)) (length-replicate fifoCapacity (pos 0)) (entries-replicate fifoCapacity)
 
 pub slots-plain : Sim plainOf SlotOk slots plains
 slots-plain = record {
-  absent = same-fresh (replicate 2048 (pos 0));
+  absent = same-fresh (replicate fifoCapacity (pos 0));
   absent-ok = ok-empty;
   session = λ s. refl;
   load = λ version ram v s f ok. same-loaded version v s f (ok .table) (ok .room);

@@ -16,7 +16,7 @@ use Rattle.version.specs.declared.SguVersion.{SguVersion}
 use Rattle.registers.specs.Waveforms.{isSqv4}
 use Rattle.registers.specs.Pcm.{setActive}
 use Rattle.registers.specs.Queue.{ticked}
-use Rattle.registers.specs.Line.{Line, lineOf, lineTicked}
+use Rattle.registers.specs.PlainQueue.{PlainQueue, plainQueueOf, plainTicked}
 use Rattle.registers.specs.declared.PcmRegisters.{PcmRegisters}
 use Rattle.registers.specs.declared.WaveformType.{WaveformType}
 use Rattle.registers.specs.declared.WaveformType.the-variants as waveforms
@@ -42,7 +42,7 @@ use Rattle.stream.specs.Cache.{stock}
 use Rattle.stream.specs.File.{sourceOf, openedFrom}
 use Rattle.sqv4.specs.Files.{inspected}
 use Rattle.stream.specs.Tick.{Given, planOf, playedBy, tickOf}
-use Rattle.stream.specs.Plain.{wholeIn, plainRead, plainFound, plainTick}
+use Rattle.stream.specs.Plain.{wholeIn, wholeRead, plainFound, plainTick}
 use Rattle.stream.specs.Cached.{cachedTick}
 use Rattle.stream.specs.declared.Info.{Info}
 use Rattle.stream.specs.declared.Play.{Play}
@@ -62,7 +62,7 @@ use Rattle.voice.specs.declared.Kind.{Kind}
 use Rattle.voice.specs.declared.Kind.the-variants.{Silent, Sqv4, FifoDac}
 use Rattle.voice.specs.declared.Kind.the-variants as kinds
 use Rattle.slots.specs.Slots.{Slot, plainOf}
-use Rattle.plain_chip.specs.Voices.{PlainVoice, withPcm, withOscillator, withLine}
+use Rattle.plain_chip.specs.Voices.{PlainVoice, withPcm, withOscillator, withPlainQueue}
 use Rattle.plain_chip.specs.Ticks.{VoiceTick, still, plainSound, plainStream, plainFifo, plainTickAs, plainVoiceTick}
 use Rattle.slots.specs.Ticks.{slotSound, slotStream, slotFifo, slotTickAs, slotTick}
 use Rattle.plain_chip.specs.Good.{Bytes}
@@ -114,7 +114,7 @@ played-phase read i p phase active (Sample at from) h = omega arith
 
 found-phase : (whole : List ℤ) (p : Play) (phase : ℕ) (active : Bool) (o : Opened) → phase < 2 ^ 64 → tickOf p phase active (plainFound whole o) .phase < 2 ^ 64
 found-phase whole p phase active NoFile h = h
-found-phase whole p phase active (File k i) h = played-phase (plainRead whole) i p phase active (planOf i p phase) h
+found-phase whole p phase active (File k i) h = played-phase (wholeRead whole) i p phase active (planOf i p phase) h
 
 plain-phase : (ram : List ℕ) (p : Play) (phase : ℕ) (active : Bool) → phase < 2 ^ 64 → plainTick ram p phase active .phase < 2 ^ 64
 unfolding plainTick
@@ -155,12 +155,12 @@ module _ (version : SguVersion) (ram : List ℕ) (t : Target) (sides : Sides) (s
   same-fifo =
       let q = s .queue in
       let n = c .registers .frequency in
-      let e : lineOf q (ticked (c .fifo) q n) ≡ lineTicked (lineOf q (c .fifo)) n = line-ticked (c .fifo) q n in
+      let e : plainQueueOf q (ticked (c .fifo) q n) ≡ plainTicked (plainQueueOf q (c .fifo)) n = line-ticked (c .fifo) q n in
       let f = tick-fits (c .fifo) q n (ok .entries) (ok .fits .fifo) in
       record {
-        voice = ap (λ (l : Line). withLine (withOscillator (plainOf s) (setLast (c .oscillator) (lastSample (l .held)))) l) e;
-        sides = ap (λ (l : Line). heard sides (l .held) (c .registers .panpot)) e;
-        value = ap (λ (l : Line). l .held) e;
+        voice = ap (λ (l : PlainQueue). withPlainQueue (withOscillator (plainOf s) (setLast (c .oscillator) (lastSample (l .held)))) l) e;
+        sides = ap (λ (l : PlainQueue). heard sides (l .held) (c .registers .panpot)) e;
+        value = ap (λ (l : PlainQueue). l .held) e;
         ok = record {
           accepted = record { registers = ok .accepted .registers; pcm = ok .accepted .pcm; oscillator = ok .accepted .oscillator; fifo = tick-accepted (c .fifo) q n (ok .fits .registers .frequency) (ok .accepted .fifo); stream = ok .accepted .stream };
           coherent = ok .coherent;

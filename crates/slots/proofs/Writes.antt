@@ -10,6 +10,7 @@ use lib.Dec.{eqb, leb}
 use lib.IntN.{ℤ, pos}
 use lib.ListN.{length, replicate, length-replicate, length-set}
 use borrow.Author.Tests.{ne-eqb}
+use Rattle.sizes.specs.Sizes.{fifoCapacity}
 use Rattle.num.proofs.Choice.{cond-by}
 use Rattle.num.proofs.Lists.{each-set}
 use Rattle.version.specs.Versions.{has3ws8pna, hasSampleControl}
@@ -17,12 +18,12 @@ use Rattle.version.specs.declared.SguVersion.{SguVersion}
 use Rattle.registers.specs.Control.{writeRegisters}
 use Rattle.registers.specs.Pcm.{setSampleControl, writePcm}
 use Rattle.registers.specs.Queue.{setLatch, pushed, pushedEntries, queued, FitEntries}
-use Rattle.registers.specs.Line.{lineOf, linePushed}
+use Rattle.registers.specs.PlainQueue.{plainQueueOf, plainPushed}
 use Rattle.registers.specs.declared.Fifo.{Fifo}
 use Rattle.registers.proofs.Ring.{line-pushed, length-queued}
 use Rattle.stream.specs.Cache.{emptied}
 use Rattle.ticks.specs.Oscillators.{setPhase}
-use Rattle.voice.specs.Channel.{defaultChannel, setOscillator, setFifo, setStream, setPcm, setVersion}
+use Rattle.voice.specs.Channel.{defaultChannel, setOscillator, setFifo, setStream, setPcm, setChannelVersion}
 use Rattle.voice.specs.Kinds.{sampleOf}
 use Rattle.voice.specs.Writes.{waveformWritten, restarted, latchWritten, sampleWritten, sampleEntries, sampleControlWritten, writeControl, writeControlEntries, writePcmReg, emptiesCache}
 use Rattle.voice.specs.Reads.{readQueue, readSampleControl, readControl, afterRead, streamsFrom}
@@ -31,7 +32,7 @@ use Rattle.voice.proofs.Offsets.{write-rest, entries-kept}
 use Rattle.voice.proofs.Clears.{version-empties}
 use Rattle.voice.proofs.Keeps.{default-accepted, version-accepted, write-kept, pcm-write-kept, read-kept}
 use Rattle.slots.specs.Slots.{Slot, freshSlot, slotWriteControl, slotWritePcm, slotAfterRead, slotWriteWave, slotReset, slotSetVersion, slotPoked, plainOf}
-use Rattle.plain_chip.specs.Voices.{PlainVoice, freshVoice, withRegisters, withPcm, withLine, plainWriteControl, plainWritePcm, plainWriteWave, plainRead, plainAfterRead, plainSetVersion}
+use Rattle.plain_chip.specs.Voices.{PlainVoice, freshVoice, withRegisters, withPcm, withPlainQueue, plainWriteControl, plainWritePcm, plainWriteWave, plainRead, plainAfterRead, plainSetVersion}
 use Rattle.slots.specs.Good.{SlotOk, AcceptedSlot}
 use Rattle.slots.proofs.Kept.{coherent-none, coherent-stored, write-empties, write-keeps, pcm-empties, pcm-keeps, read-empties, read-keeps}
 use Rattle.slots.proofs.Fits.{default-channel-fits, version-fits, write-control-fits, write-entries-fit, write-pcm-reg-fits, after-read-fits, length-entries}
@@ -61,7 +62,7 @@ module _ (version : SguVersion) (value : ℕ) (s : Slot) where
   unfolding slotWriteControl plainWriteControl writeControl writeControlEntries latchWritten
   at-latch = choice (has3ws8pna version) (λ (c : Channel). plainOf (within s c)) (setFifo (s .channel) (setLatch (s .channel .fifo) value)) (s .channel)
 
-  at-sample : length (s .queue) ≡ 2048 → Same 13
+  at-sample : length (s .queue) ≡ fifoCapacity → Same 13
   unfolding slotWriteControl plainWriteControl writeControl writeControlEntries sampleWritten sampleEntries
   at-sample room = at (has3ws8pna version)
     where
@@ -71,8 +72,8 @@ module _ (version : SguVersion) (value : ℕ) (s : Slot) where
       x : ℤ
       x = sampleOf (f .latch) value
 
-      at : (b : Bool) → plainOf (record { channel = cond b (setFifo (s .channel) (pushed f)) (s .channel); fragments = s .fragments; wavetable = s .wavetable; queue = cond b (pushedEntries f (s .queue) x) (s .queue) }) ≡ cond b (withLine (plainOf s) (linePushed (lineOf (s .queue) f) x)) (plainOf s)
-      at true = ap (withLine (plainOf s)) (line-pushed f (s .queue) x room)
+      at : (b : Bool) → plainOf (record { channel = cond b (setFifo (s .channel) (pushed f)) (s .channel); fragments = s .fragments; wavetable = s .wavetable; queue = cond b (pushedEntries f (s .queue) x) (s .queue) }) ≡ cond b (withPlainQueue (plainOf s) (plainPushed (plainQueueOf (s .queue) f) x)) (plainOf s)
+      at true = ap (withPlainQueue (plainOf s)) (line-pushed f (s .queue) x room)
       at false = refl
 
   at-control : Same 26
@@ -89,7 +90,7 @@ module _ (version : SguVersion) (value : ℕ) (s : Slot) where
       sym (λ i. plainOf (record { channel = write-rest version (s .channel) o value a b c d e i; fragments = s .fragments; wavetable = s .wavetable; queue = entries-kept version (s .channel) o value (s .queue) d i }))
       ∙ plain-other (plainOf s) o a b c d e
 
-  pub same-write-control : length (s .queue) ≡ 2048 → (o : ℕ) → Same o
+  pub same-write-control : length (s .queue) ≡ fifoCapacity → (o : ℕ) → Same o
   same-write-control room o =
       elim (ℕ-discrete o 2) [
         | yes e ↦ subst Same (sym e) at-waveform
@@ -137,7 +138,7 @@ unfolding slotReset
 same-reset s = same-fresh (s .queue)
 
 pub same-version : (version : SguVersion) (s : Slot) → plainOf (slotSetVersion version s) ≡ plainSetVersion version (plainOf s)
-unfolding slotSetVersion plainSetVersion setVersion queued
+unfolding slotSetVersion plainSetVersion setChannelVersion queued
 same-version version s = refl
 
 -- a RAM write leaves the plain voice as it is
@@ -146,7 +147,7 @@ unfolding slotPoked
 same-poked address s = cond-by (λ (x : Slot). plainOf x ≡ plainOf s) (streamsFrom (s .channel) address) _ s (λ e. refl) (λ e. refl)
 
 -- ---- a good voice stays good
-pub ok-fresh : (version : SguVersion) (ram : List ℕ) (q : List ℤ) → length q ≡ 2048 → FitEntries q → SlotOk version ram (freshSlot q)
+pub ok-fresh : (version : SguVersion) (ram : List ℕ) (q : List ℤ) → length q ≡ fifoCapacity → FitEntries q → SlotOk version ram (freshSlot q)
 ok-fresh version ram q room fit = record {
   accepted = default-accepted version (length ram);
   coherent = coherent-none version ram defaultChannel (replicate 128 (pos 0)) refl (length-replicate 128 (pos 0));
@@ -219,7 +220,7 @@ pub ok-version : (old : SguVersion) (n : ℕ) (s : Slot) → AcceptedSlot old n 
 unfolding slotSetVersion
 ok-version old n s ok ram version = record {
   accepted = version-accepted (s .channel) old version n (length ram) (ok .accepted);
-  coherent = coherent-none version ram (setVersion (s .channel) version) (replicate 128 (pos 0)) (version-empties (s .channel) version .1) (length-replicate 128 (pos 0));
+  coherent = coherent-none version ram (setChannelVersion (s .channel) version) (replicate 128 (pos 0)) (version-empties (s .channel) version .1) (length-replicate 128 (pos 0));
   fits = version-fits (s .channel) (ok .fits) version;
   table = ok .table;
   bytes = ok .bytes;

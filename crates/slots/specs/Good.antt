@@ -3,6 +3,7 @@ use mathlib.Core.Path.{_≡_}
 use mathlib.Core.List.{List}
 use Prim.Native.Nat.{ℕ}
 use lib.ListN.{length}
+use Rattle.sizes.specs.Sizes.{fifoCapacity}
 use Rattle.version.specs.Versions.{has34si22}
 use Rattle.version.specs.declared.SguVersion.{SguVersion}
 use Rattle.registers.specs.Control.{FitRegisters}
@@ -14,7 +15,7 @@ use Rattle.ticks.specs.Oscillators.{FitOscillator}
 use Rattle.voice.specs.Accepted.{AcceptedChannel}
 use Rattle.voice.specs.declared.Channel.{Channel}
 use Rattle.slots.specs.Slots.{Slot}
-use Rattle.slots.specs.Models.{World}
+use Rattle.slots.specs.Models.{SlotChip}
 use Rattle.plain_chip.specs.Good.{Bytes, ChipOk}
 
 -- the ranges that the types give
@@ -36,7 +37,7 @@ pub record SlotOk (version : SguVersion) (ram : List ℕ) (s : Slot) : Type 0 wh
   pub fits : FitChannel (s .channel)
   pub table : length (s .wavetable) ≡ 256
   pub bytes : Bytes (s .wavetable)
-  pub room : length (s .queue) ≡ 2048
+  pub room : length (s .queue) ≡ fifoCapacity
   pub entries : FitEntries (s .queue)
 
 -- an accepted voice, whatever its cache holds; `ram` is the RAM's length
@@ -46,8 +47,8 @@ pub record AcceptedSlot (version : SguVersion) (ram : ℕ) (s : Slot) : Type 0 w
   pub fragments : length (s .fragments) ≡ 128
   pub table : length (s .wavetable) ≡ 256
   pub bytes : Bytes (s .wavetable)
-  pub room : length (s .queue) ≡ 2048
+  pub room : length (s .queue) ≡ fifoCapacity
   pub entries : FitEntries (s .queue)
 
-abbrev pub WorldOk : World → Type 0
-WorldOk w = ChipOk SlotOk w
+abbrev pub SlotChipOk : SlotChip → Type 0
+SlotChipOk w = ChipOk SlotOk w

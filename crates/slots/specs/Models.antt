@@ -3,7 +3,7 @@ use mathlib.Core.List.{map}
 use Rattle.slots.specs.Slots.{Slot, emptySlot, slotWriteControl, slotWritePcm, slotAfterRead, slotWriteWave, slotReset, slotSetVersion, slotPoked, plainOf, slotLoaded}
 use Rattle.slots.specs.Ticks.{slotTick}
 use Rattle.plain_chip.specs.Models.{Model}
-use Rattle.plain_chip.specs.Chips.{Chip, Plain}
+use Rattle.plain_chip.specs.Chips.{ModelChip, Plain}
 
 abbrev pub slots : Model Slot
 slots = record {
@@ -20,9 +20,9 @@ slots = record {
   tick = slotTick;
 }
 
-abbrev pub World : Type 0
-World = Chip Slot
+abbrev pub SlotChip : Type 0
+SlotChip = ModelChip Slot
 
 -- the plain chip that a chip is
-abbrev pub plain : World → Plain
+abbrev pub plain : SlotChip → Plain
 plain w = record { version = w .version; ram = w .ram; voices = map plainOf (w .voices) }

@@ -6,10 +6,11 @@ use lib.Dec.{eqb, leb}
 use lib.IntN.{ℤ, pos}
 use lib.ListN.{length, replicate, set}
 use lib.Seq.{sets}
+use Rattle.sizes.specs.Sizes.{fifoCapacity}
 use Rattle.version.specs.declared.SguVersion.{SguVersion}
-use Rattle.registers.specs.Line.{lineOf}
+use Rattle.registers.specs.PlainQueue.{plainQueueOf}
 use Rattle.stream.specs.Cache.{emptied}
-use Rattle.voice.specs.Channel.{defaultChannel, setStream, setVersion}
+use Rattle.voice.specs.Channel.{defaultChannel, setStream, setChannelVersion}
 use Rattle.voice.specs.Writes.{writeControl, writeControlEntries, emptiesCache, writePcmReg}
 use Rattle.voice.specs.Reads.{afterRead, streamsFrom}
 use Rattle.voice.specs.declared.Channel.{Channel}
@@ -27,7 +28,7 @@ freshSlot queue = record { channel = defaultChannel; fragments = replicate 128 (
 
 -- what stands for a voice that is not there
 abbrev pub emptySlot : Slot
-emptySlot = freshSlot (replicate 2048 (pos 0))
+emptySlot = freshSlot (replicate fifoCapacity (pos 0))
 
 -- another channel; with an emptied cache go its decoded samples
 abbrev pub stored : Bool → Channel → Slot → Slot
@@ -61,7 +62,7 @@ unfoldable pub slotReset : Slot → Slot
 slotReset s = freshSlot (s .queue)
 
 unfoldable pub slotSetVersion : SguVersion → Slot → Slot
-slotSetVersion version s = stored true (setVersion (s .channel) version) s
+slotSetVersion version s = stored true (setChannelVersion (s .channel) version) s
 
 -- ---- a byte of the RAM is written: a stream that has it begins anew
 unfoldable pub slotPoked : ℕ → Slot → Slot
@@ -74,7 +75,7 @@ plainOf s = record {
   registers = s .channel .registers;
   pcm = s .channel .pcm;
   oscillator = s .channel .oscillator;
-  line = lineOf (s .queue) (s .channel .fifo);
+  queue = plainQueueOf (s .queue) (s .channel .fifo);
   wavetable = s .wavetable;
 }
 
@@ -82,7 +83,7 @@ plainOf s = record {
 abbrev pub channelWith : PlainVoice → Channel
 channelWith v = record {
   oscillator = v .oscillator;
-  fifo = record { head = 0; count = length (v .line .line); held = v .line .held; hold = v .line .hold; sub = v .line .sub; latch = v .line .latch };
+  fifo = record { head = 0; count = length (v .queue .samples); held = v .queue .held; hold = v .queue .hold; sub = v .queue .sub; latch = v .queue .latch };
   stream = emptied;
   pcm = v .pcm;
   registers = v .registers;
@@ -90,4 +91,4 @@ channelWith v = record {
 
 -- what reading them from a session makes of a voice; other entries of the queue are untouched
 unfoldable pub slotLoaded : PlainVoice → Slot → Slot
-slotLoaded v s = record { channel = channelWith v; fragments = s .fragments; wavetable = sets (s .wavetable) 0 (v .wavetable); queue = sets (s .queue) 0 (v .line .line) }
+slotLoaded v s = record { channel = channelWith v; fragments = s .fragments; wavetable = sets (s .wavetable) 0 (v .wavetable); queue = sets (s .queue) 0 (v .queue .samples) }

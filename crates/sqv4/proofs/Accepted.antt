@@ -21,7 +21,7 @@ use Rattle.sqv4.specs.declared.Fault.{Fault}
 use Rattle.sqv4.specs.declared.Fault.the-variants.{Fine, Step, Padding}
 use Rattle.sqv4.specs.declared.Inspected.{Inspected}
 use Rattle.sqv4.specs.declared.Inspected.the-variants.{Accepted, TruncatedHeader, InvalidMagic, UnsupportedVersion, InvalidVariant, InvalidChannels, InvalidReservedByte, ZeroSampleRate, InvalidFileLength, InvalidStepIndex, NonZeroPadding}
-use Rattle.sqv4.specs.Files.{frameSamples, frameSize, frameCount, headerOf, lengthOf, faultIn, unless, usedAt, fragmentAt, faultsFrom, measured, named, byVariant, magic, inspected, Fills}
+use Rattle.sqv4.specs.Files.{frameSamples, frameSize, frameCount, headerOf, lengthOf, faultIn, unlessFault, usedAt, fragmentAt, faultsFrom, measured, named, byVariant, magic, inspected, Fills}
 use Rattle.sqv4.proofs.Sizes.{payload-size, legacy-size}
 
 -- ---- P holds of the header where there is one
@@ -57,7 +57,7 @@ unfolding faultsFrom
 faults-keep P d h g p zero = record { it = g }
 faults-keep P d h g p (suc n) = go (faultIn (h .version) (usedAt h p) (fragmentAt d h p)) (faults-keep P d h g (suc p) n)
   where
-    go : (x : Fault) {y : Inspected} → Took P y → Took P (unless x y)
+    go : (x : Fault) {y : Inspected} → Took P y → Took P (unlessFault x y)
     go Fine t = t
     go (Step b) t = record { it = tt }
     go Padding t = record { it = tt }

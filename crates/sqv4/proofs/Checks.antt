@@ -14,10 +14,10 @@ use Rattle.sqv4.specs.declared.Fault.the-variants.{Fine, Step, Padding}
 use Rattle.sqv4.specs.declared.Header.{Header}
 use Rattle.sqv4.specs.declared.Inspected.{Inspected}
 use Rattle.sqv4.specs.declared.Inspected.the-variants.{Accepted}
-use Rattle.sqv4.specs.Files.{faultIn, faultsFrom, unless, usedAt, fragmentAt, Fills}
+use Rattle.sqv4.specs.Files.{faultIn, faultsFrom, unlessFault, usedAt, fragmentAt, Fills}
 
 -- a fault makes what follows it of no account
-pub not-fine : (f : Fault) → (tagOf the-type f ≡ 1) ⊎ (tagOf the-type f ≡ 2) → (x y : Inspected) → unless f x ≡ unless f y
+pub not-fine : (f : Fault) → (tagOf the-type f ≡ 1) ⊎ (tagOf the-type f ≡ 2) → (x y : Inspected) → unlessFault f x ≡ unlessFault f y
 not-fine Fine (inl e) x y = absurd (omega arith)
 not-fine Fine (inr e) x y = absurd (omega arith)
 not-fine (Step b) e x y = refl
@@ -35,7 +35,7 @@ module _ (d : List ℕ) (h : Header) where
   pub rest-all : rest 0 ≡ faultsFrom d h 0 total
   rest-all = ap (faultsFrom d h 0) (sub-zero total)
 
-  faults-step : (p : ℕ) → p < total → rest p ≡ unless (faultIn (h .version) (usedAt h p) (fragmentAt d h p)) (rest (p + 1))
+  faults-step : (p : ℕ) → p < total → rest p ≡ unlessFault (faultIn (h .version) (usedAt h p) (fragmentAt d h p)) (rest (p + 1))
   unfolding faultsFrom
   faults-step p l = ap (λ (n : ℕ). faultsFrom d h p n) (one p total l) ∙ rw (add-one p)
     where
@@ -54,7 +54,7 @@ module _ (d : List ℕ) (h : Header) where
   room p f l = omega (arith, f .long, mul-le-mul-right (h .«frame_size») l)
 
   -- a turn: fault x of the fragment at `at`
-  pub turn : (p at used : ℕ) (x : Fault) → p < total → at ≡ 16 + p * h .«frame_size» → used ≡ usedAt h p → x ≡ faultIn (h .version) used (take (at + h .«frame_size» - at) (drop at d)) → rest p ≡ unless x (rest (p + 1))
+  pub turn : (p at used : ℕ) (x : Fault) → p < total → at ≡ 16 + p * h .«frame_size» → used ≡ usedAt h p → x ≡ faultIn (h .version) used (take (at + h .«frame_size» - at) (drop at d)) → rest p ≡ unlessFault x (rest (p + 1))
   turn p at used x l e u f =
       let m : at + h .«frame_size» - at ≡ h .«frame_size» = omega arith in
-      faults-step p l ∙ ap (λ (y : Fault). unless y (rest (p + 1))) (sym (rw (m, e, u) at f))
+      faults-step p l ∙ ap (λ (y : Fault). unlessFault y (rest (p + 1))) (sym (rw (m, e, u) at f))

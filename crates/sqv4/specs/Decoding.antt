@@ -7,7 +7,7 @@ use lib.ListN.{getD, drop, set}
 use lib.IntN.{ℤ, pos}
 use Rattle.adpcm.specs.declared.Variant.{Variant}
 use Rattle.adpcm.specs.declared.State.{State}
-use Rattle.adpcm.specs.Codes.{bitsOf, decodeCode, volumeOf, legacyVolumeOf, codeAt}
+use Rattle.adpcm.specs.Codes.{bitsOf, decodeCode, appliedVolume, legacyVolume, codeAt}
 use Rattle.sqv4.specs.Files.{prefixOf}
 
 -- ---- a run of codes
@@ -18,7 +18,7 @@ codesFrom k payload i (suc n) = codeAt payload i (bitsOf k) ∷ codesFrom k payl
 
 -- a predictor at a volume
 abbrev pub soundOf : ℕ → ℤ → ℕ → ℤ
-soundOf version p volume = cond (eqb version 3) (volumeOf p volume) (legacyVolumeOf p volume)
+soundOf version p volume = cond (eqb version 3) (appliedVolume p volume) (legacyVolume p volume)
 
 unfoldable pub sounds : ℕ → Variant → ℕ → State → List ℕ → List ℤ
 sounds version k volume s [] = []

@@ -82,17 +82,17 @@ cleanTail version used b = ltb (le (drop (prefixOf version) b)) (2 ^ used)
 unfoldable pub faultIn : ℕ → ℕ → List ℕ → Fault
 faultIn version used b = cond (badStep version b) (Step (getD b 1 0)) (cond (cleanTail version used b) Fine Padding)
 
-abbrev pub unless : Fault → Inspected → Inspected
-unless Fine x = x
-unless (Step i) x = InvalidStepIndex i
-unless Padding x = NonZeroPadding
+abbrev pub unlessFault : Fault → Inspected → Inspected
+unlessFault Fine x = x
+unlessFault (Step i) x = InvalidStepIndex i
+unlessFault Padding x = NonZeroPadding
 
 -- the first fault of `left` fragments from position p on
 unfoldable pub faultsFrom : List ℕ → Header → ℕ → ℕ → Inspected
 faultsFrom d h p zero = Accepted h
 faultsFrom d h p (suc left) =
     let rest = faultsFrom d h (suc p) left in
-    unless (faultIn (h .version) (usedAt h p) (fragmentAt d h p)) rest
+    unlessFault (faultIn (h .version) (usedAt h p) (fragmentAt d h p)) rest
 
 -- ---- the check
 abbrev pub measured : List ℕ → Header → Inspected

@@ -7,7 +7,7 @@ ghost use lib.ListN.{length, getD, drop};
 ghost use Rattle.num.specs.Lists.{part};
 ghost use Rattle.num.specs.Bytes.{le};
 ghost use Rattle.adpcm.specs.Codes.{bitsOf};
-ghost use Rattle.sqv4.specs.Files.{frameSamples, prefixOf, frameSize, frameCount, magic, frameLength, usedAt, faultIn, unless, faultsFrom, headerOf, measured, named, inspected, Fills};
+ghost use Rattle.sqv4.specs.Files.{frameSamples, prefixOf, frameSize, frameCount, magic, frameLength, usedAt, faultIn, unlessFault, faultsFrom, headerOf, measured, named, inspected, Fills};
 use crate::Fault;
 use crate::Header;
 use crate::Inspected;
@@ -161,7 +161,7 @@ fn fault_in(version: u8, used: usize, fragment: &[u8]) -> Fault
 }
 
 fn told(fault: Fault) -> Inspected
-    ensures { λ r. ⌜ r ≡ unless fault Inspected.NonZeroPadding ⌝ }
+    ensures { λ r. ⌜ r ≡ unlessFault fault Inspected.NonZeroPadding ⌝ }
 {
     match fault {
         Fault::Fine => Inspected::NonZeroPadding,

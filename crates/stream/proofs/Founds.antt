@@ -11,7 +11,7 @@ use Rattle.stream.specs.declared.Opened.{Opened}
 use Rattle.stream.specs.File.{sourceOf, openedIn}
 use Rattle.stream.specs.Cache.{Stock}
 use Rattle.stream.specs.Accepted.{acceptsCache}
-use Rattle.stream.specs.Tick.{Found, unheard, tickOf}
+use Rattle.stream.specs.Tick.{FoundFile, unheard, tickOf}
 use Rattle.stream.specs.Cached.{heldFound, freshFound, cachedFound, cachedTick}
 
 pub choose : {A : Type 0} (b : Bool) (x y : A) → b ≡ true → cond b x y ≡ x
@@ -40,6 +40,6 @@ module _ (ram : List ℕ) (p : Play) (s : Stock) where
   unfolding cachedFound sourceOf
   found-fresh e v o q = choose (eqb (length (s .samples)) 128) _ _ e ∙ refuse (s .cache .valid) _ _ v ∙ ap (freshFound file (s .samples)) q
 
-  pub tick-by : (phase : ℕ) (active : Bool) (f : Found Stock) → cachedFound ram p s ≡ f → tickOf p phase active f ≡ cachedTick ram p phase active s
+  pub tick-by : (phase : ℕ) (active : Bool) (f : FoundFile Stock) → cachedFound ram p s ≡ f → tickOf p phase active f ≡ cachedTick ram p phase active s
   unfolding cachedTick
   tick-by phase active f e = sym (ap (tickOf p phase active) e)

@@ -21,17 +21,17 @@ use Rattle.stream.specs.declared.Play.{Play}
 use Rattle.stream.specs.declared.StreamCache.{StreamCache}
 use Rattle.stream.specs.declared.Streamed.{Streamed}
 use Rattle.stream.specs.Cache.{Stock, stock, ensureIn}
-use Rattle.stream.specs.Tick.{Given, Ticked, planOf, mixes, heardAt, playedBy, tickOf}
+use Rattle.stream.specs.Tick.{Given, StreamTick, planOf, blends, heardAt, playedBy, tickOf}
 use Rattle.stream.specs.Cached.{tapAt, cachedRead, heldFound}
 
 -- ---- a value, from its reads
 module _ {S : Type 0} (read : S → ℕ → Given S) (i : Info) (p : Play) (frac : ℕ) (s : S) (at : ℕ) (g : Given S) (r : g ≡ read s at) where
-  pub heard-one : mixes i p frac at ≡ false → (x : ℤ) → x ≡ raisedSample (g .sample) → _≡_ {A = Given S} (record { left = g .left; sample = x }) (heardAt read i p frac s at)
+  pub heard-one : blends i p frac at ≡ false → (x : ℤ) → x ≡ raisedSample (g .sample) → _≡_ {A = Given S} (record { left = g .left; sample = x }) (heardAt read i p frac s at)
   heard-one m x e =
       (λ j. record { left = r j .left; sample = (e ∙ ap (λ (y : Given S). raisedSample (y .sample)) r) j })
       ∙ sym (ap (λ (b : Bool). cond b (record { left = read (read s at .left) (at + 1) .left; sample = blendSamples (read s at .sample) (read (read s at .left) (at + 1) .sample) frac }) (record { left = read s at .left; sample = raisedSample (read s at .sample) })) m)
 
-  pub heard-two : mixes i p frac at ≡ true → (n : Given S) → n ≡ read (g .left) (at + 1) → (x : ℤ) → x ≡ blendSamples (g .sample) (n .sample) frac → _≡_ {A = Given S} (record { left = n .left; sample = x }) (heardAt read i p frac s at)
+  pub heard-two : blends i p frac at ≡ true → (n : Given S) → n ≡ read (g .left) (at + 1) → (x : ℤ) → x ≡ blendSamples (g .sample) (n .sample) frac → _≡_ {A = Given S} (record { left = n .left; sample = x }) (heardAt read i p frac s at)
   heard-two m n q x e =
       let q′ : n ≡ read (read s at .left) (at + 1) = q ∙ ap (λ (y : Given S). read (y .left) (at + 1)) r in
       (λ j. record { left = q′ j .left; sample = (e ∙ (λ k. blendSamples (r k .sample) (q′ k .sample) frac)) j })
@@ -58,7 +58,7 @@ module _ (d : List ℕ) (v : Streamed) (samples : List ℤ) (p : Play) (k : Vari
 
   pub sampled : (at from frac : ℕ) (h : Given Stock) (phase : ℕ) → planOf (v .cache .info) p (v .phase) ≡ Sample at from → frac ≡ fractionOf (v .phase)
       → h ≡ heardAt (cachedRead d k (v .cache .info)) (v .cache .info) p frac (stock (v .cache) samples) at → phase ≡ steppedBy from (p .step)
-      → _≡_ {A = Ticked Stock} (record { stream = h .left; phase = phase; active = v .active; value = h .sample }) (tickOf p (v .phase) (v .active) (heldFound d (stock (v .cache) samples) (v .cache .variant)))
+      → _≡_ {A = StreamTick Stock} (record { stream = h .left; phase = phase; active = v .active; value = h .sample }) (tickOf p (v .phase) (v .active) (heldFound d (stock (v .cache) samples) (v .cache .variant)))
   sampled at from frac h phase q f r t =
       let r′ : h ≡ heardAt (cachedRead d k (v .cache .info)) (v .cache .info) p (fractionOf (v .phase)) (stock (v .cache) samples) at = r ∙ ap (λ (x : ℕ). heardAt (cachedRead d k (v .cache .info)) (v .cache .info) p x (stock (v .cache) samples) at) f in
       (λ j. record { stream = r′ j .left; phase = t j; active = v .active; value = r′ j .sample }) ∙ by-plan (Sample at from) q
@@ -81,7 +81,7 @@ plan-asks i p phase a =
     some : (i .«sample_count» ≡ 0 → ⊥) → 0 < i .«sample_count»
     some h = omega arith
 
-pub mixes-next : (i : Info) (p : Play) (frac at : ℕ) → mixes i p frac at ≡ true → at + 1 < i .«sample_count»
+pub mixes-next : (i : Info) (p : Play) (frac at : ℕ) → blends i p frac at ≡ true → at + 1 < i .«sample_count»
 mixes-next i p frac at e = go (p .interpolate) (eqb frac 0) e
   where
     go : (a b : Bool) → cond a (cond b false (ltb (at + 1) (i .«sample_count»))) false ≡ true → at + 1 < i .«sample_count»

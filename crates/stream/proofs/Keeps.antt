@@ -29,7 +29,7 @@ use Rattle.stream.specs.declared.StreamCache.{StreamCache}
 use Rattle.stream.specs.File.{openedIn}
 use Rattle.stream.specs.Cache.{Stock, stock, emptied, filledWith, rewoundFrom, cachedAt, isHeld, storedAs, Plays, framesOf, fragmentSamples, fragmentState, load, step, steps, ensure}
 use Rattle.stream.specs.Accepted.{halfFits, acceptsCache, Fit}
-use Rattle.stream.specs.Tick.{Given, Ticked, Found, unheard, planOf, mixes, heardAt, playedBy, tickOf}
+use Rattle.stream.specs.Tick.{Given, StreamTick, FoundFile, unheard, planOf, blends, heardAt, playedBy, tickOf}
 use Rattle.stream.specs.Cached.{cachedRead, heldFound, freshFound, cachedFound, cachedTick}
 use Rattle.stream.proofs.Fragments.{frame-there}
 use Rattle.stream.proofs.Counts.{both-is}
@@ -141,7 +141,7 @@ module _ (d : List ℕ) (k : Variant) (i : Info) (bytes size : ℕ) where
 
     heard-fit : (p : Play) (frac : ℕ) (s : Stock) → Fits s → (at : ℕ) → at < i .«sample_count» → Fits (heardAt (cachedRead d k i) i p frac s at .left)
     heard-fit p frac s w at l =
-        cond-by (λ (g : Given Stock). Fits (g .left)) (mixes i p frac at) _ _
+        cond-by (λ (g : Given Stock). Fits (g .left)) (blends i p frac at) _ _
         (λ m. read-fit (cachedRead d k i s at .left) (read-fit s w at l) (at + 1) (mixes-next i p frac at m)) (λ m. read-fit s w at l)
 
     pub played-fit : (p : Play) (phase : ℕ) (active : Bool) (s : Stock) → Fits s → (plan : Plan) → Asks (i .«sample_count») plan → Fits (playedBy (cachedRead d k i) i p phase active s plan .stream)
@@ -149,7 +149,7 @@ module _ (d : List ℕ) (k : Variant) (i : Info) (bytes size : ℕ) where
     played-fit p phase active s w (Sample at from) a = heard-fit p (fraction phase) s w at a
 
 -- ---- the tick
-pub record TickKeeps (ram : List ℕ) (p : Play) (s : Stock) (t : Ticked Stock) : Type 0 where
+pub record TickKeeps (ram : List ℕ) (p : Play) (s : Stock) (t : StreamTick Stock) : Type 0 where
   pub accepted : acceptsCache (t .stream .cache) (p .start) (p .end) (length ram) ≡ true
   pub long : length (t .stream .samples) ≡ length (s .samples)
 
@@ -168,7 +168,7 @@ module _ (ram : List ℕ) (p : Play) (phase : ℕ) (active : Bool) where
   pub tick-keeps : (s : Stock) → acceptsCache (s .cache) (p .start) (p .end) (length ram) ≡ true → TickKeeps ram p s (cachedTick ram p phase active s)
   tick-keeps s a = short (eqb (length (s .samples)) 128) refl
     where
-      by : (f : Found Stock) → cachedFound ram p s ≡ f → TickKeeps ram p s (tickOf p phase active f) → TickKeeps ram p s (cachedTick ram p phase active s)
+      by : (f : FoundFile Stock) → cachedFound ram p s ≡ f → TickKeeps ram p s (tickOf p phase active f) → TickKeeps ram p s (cachedTick ram p phase active s)
       by f e = subst (TickKeeps ram p s) (tick-by ram p s phase active f e)
 
       fresh : (o : Opened) → openedIn ram (p .«wants_v3») (p .start) (p .end) (p .«loop_addr») ≡ o → TickKeeps ram p s (tickOf p phase active (freshFound file (s .samples) o))

@@ -25,14 +25,14 @@ use Rattle.sqv4.proofs.Accepted.{Told, accepted-told, accepted-says, says-fills
 use Rattle.stream.specs.declared.Opened.{Opened}
 use Rattle.stream.specs.declared.Opened.the-variants.{NoFile, File}
 use Rattle.stream.specs.declared.Info.{Info}
-use Rattle.stream.specs.File.{Source, sourceOf, infoOf, looped, isWanted, taken, openedFrom, openedIn}
+use Rattle.stream.specs.File.{Source, sourceOf, infoOf, looped, isWanted, openedAs, openedFrom, openedIn}
 use Rattle.stream.specs.Cache.{filledWith}
 use Rattle.stream.specs.Accepted.{both, loopFits, halfFits, Fit}
 use Rattle.stream.proofs.Fragments.{samples-range}
 use Rattle.stream.proofs.Counts.{both-true, both-is}
 use Rattle.stream.proofs.Accepts.{AcceptedAs, long-part}
 
-pub refused-none : (wants : Bool) (start again : ℕ) (x : Inspected) → OneOf (1 ∷ 2 ∷ 3 ∷ 4 ∷ 5 ∷ 6 ∷ 7 ∷ 8 ∷ 9 ∷ 10 ∷ []) (tagOf the-type x) → NoFile ≡ taken wants start again x
+pub refused-none : (wants : Bool) (start again : ℕ) (x : Inspected) → OneOf (1 ∷ 2 ∷ 3 ∷ 4 ∷ 5 ∷ 6 ∷ 7 ∷ 8 ∷ 9 ∷ 10 ∷ []) (tagOf the-type x) → NoFile ≡ openedAs wants start again x
 refused-none wants start again (Accepted h) t = absurd (zero-not t)
 refused-none wants start again TruncatedHeader t = refl
 refused-none wants start again InvalidMagic t = refl
@@ -96,7 +96,7 @@ module _ (d : List ℕ) (wants : Bool) (start again : ℕ) (h : Header) (e : ins
       (λ z. record { it = tt }))
       (λ b. record { it = tt }))
 
-taken-as : (d : List ℕ) (wants : Bool) (start again : ℕ) (x : Inspected) → inspected d ≡ x → Openeds d wants (taken wants start again x)
+taken-as : (d : List ℕ) (wants : Bool) (start again : ℕ) (x : Inspected) → inspected d ≡ x → Openeds d wants (openedAs wants start again x)
 taken-as d wants start again (Accepted h) e =
     cond-by (Openeds d wants) (isWanted wants (h .channels) (h .version)) (looped start again h) NoFile (λ w. looped-as d wants start again h e w) (λ w. record { it = tt })
 taken-as d wants start again TruncatedHeader e = record { it = tt }
@@ -117,12 +117,12 @@ there-true false x k i e = absurd (let z : _≡_ {A = ℕ} 0 1 = cc in omega ari
 pub opened-as : (src : Source) (wants : Bool) (start again : ℕ) (k : Variant) (i : Info) → openedFrom src wants start again ≡ File k i → OpenedAs (src .bytes) wants k i
 unfolding openedFrom
 opened-as src wants start again k i e =
-    subst (λ (x : Opened). Openeds (src .bytes) wants x) (there-true (src .there) (taken wants start again (inspected (src .bytes))) k i e .1) (taken-as (src .bytes) wants start again (inspected (src .bytes)) refl) .it
+    subst (λ (x : Opened). Openeds (src .bytes) wants x) (there-true (src .there) (openedAs wants start again (inspected (src .bytes))) k i e .1) (taken-as (src .bytes) wants start again (inspected (src .bytes)) refl) .it
 
 pub opened-range : (ram : List ℕ) (wants : Bool) (start end again : ℕ) (k : Variant) (i : Info) → openedIn ram wants start end again ≡ File k i → (start < end) × (end ≤ length ram)
 unfolding openedFrom sourceOf
 opened-range ram wants start end again k i e =
-    let b = both-true (ltb start end) (leb end (length ram)) (there-true (cond (ltb start end) (leb end (length ram)) false) (taken wants start again (inspected (part ram start (end - start)))) k i e .0) in
+    let b = both-true (ltb start end) (leb end (length ram)) (there-true (cond (ltb start end) (leb end (length ram)) false) (openedAs wants start again (inspected (part ram start (end - start)))) k i e .0) in
     (ltb-true start end (b .0), leb-true end (length ram) (b .1))
 
 wanted-mono : (wants : Bool) (channels version : ℕ) → isWanted wants channels version ≡ true → channels ≡ 1

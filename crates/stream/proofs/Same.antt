@@ -29,9 +29,9 @@ use Rattle.stream.specs.declared.Opened.the-variants.{NoFile, File}
 use Rattle.stream.specs.File.{sourceOf, infoOf, openedIn}
 use Rattle.stream.specs.Cache.{Stock, stock, emptied, filledWith, Plays, framesOf, bytesAt, fragmentSamples, fragmentState, ensureIn}
 use Rattle.stream.specs.Accepted.{acceptsCache}
-use Rattle.stream.specs.Tick.{Given, Ticked, planOf, mixes, heardAt, playedBy, tickOf}
+use Rattle.stream.specs.Tick.{Given, StreamTick, planOf, blends, heardAt, playedBy, tickOf}
 use Rattle.stream.specs.Cached.{cachedRead, heldFound, freshFound, cachedTick}
-use Rattle.stream.specs.Plain.{wholeIn, plainRead, plainFound, plainTick}
+use Rattle.stream.specs.Plain.{wholeIn, wholeRead, plainFound, plainTick}
 use Rattle.stream.specs.Coherent.{HoldsFile, Valid, Coherent, CoherentIn}
 use Rattle.stream.proofs.Fragments.{per-range, frame-below, length-fragment, fragment-alone}
 use Rattle.stream.proofs.Pieces.{whole-at}
@@ -105,8 +105,8 @@ module _ (d : List ℕ) (k : Variant) (i : Info) (plays : Plays d k i) where
             kept = kept-ensure (eqb (i .version) 3) (fragmentSamples d k i) (fragmentState d k i) s t;
           }
 
-  same-heard : (p : Play) (frac : ℕ) (s : Stock) → HoldsFile d k i s → (at : ℕ) → at < i .«sample_count» → SameValue s (heardAt (plainRead (fragments d k i)) i p frac tt at .sample) (heardAt (cachedRead d k i) i p frac s at)
-  same-heard p frac s ok at l = go (mixes i p frac at) (mixes-next i p frac at) (same-read s ok at l)
+  same-heard : (p : Play) (frac : ℕ) (s : Stock) → HoldsFile d k i s → (at : ℕ) → at < i .«sample_count» → SameValue s (heardAt (wholeRead (fragments d k i)) i p frac tt at .sample) (heardAt (cachedRead d k i) i p frac s at)
+  same-heard p frac s ok at l = go (blends i p frac at) (mixes-next i p frac at) (same-read s ok at l)
     where
       a : Given Stock
       a = cachedRead d k i s at
@@ -126,21 +126,21 @@ module _ (d : List ℕ) (k : Variant) (i : Info) (plays : Plays d k i) where
           record { value = ap₂ (λ (u v : ℤ). blendSamples u v frac) (r .sample) (q .sample); holds = q .holds; kept = kept-kept _ _ _ s (a .left) (b .left) (r .kept) (q .kept) }
       go false n r = record { value = ap raisedSample (r .sample); holds = r .holds; kept = r .kept }
 
-  record SameTick (s : Stock) (u : Ticked (Unit {0})) (t : Ticked Stock) : Type 0 where
+  record SameTick (s : Stock) (u : StreamTick (Unit {0})) (t : StreamTick Stock) : Type 0 where
     pub phase : t .phase ≡ u .phase
     pub active : t .active ≡ u .active
     pub value : t .value ≡ u .value
     pub holds : HoldsFile d k i (t .stream)
     pub kept : KeptIn s (t .stream)
 
-  same-played : (p : Play) (phase : ℕ) (active : Bool) (s : Stock) → HoldsFile d k i s → (plan : Plan) → Asks (i .«sample_count») plan → SameTick s (playedBy (plainRead (fragments d k i)) i p phase active tt plan) (playedBy (cachedRead d k i) i p phase active s plan)
+  same-played : (p : Play) (phase : ℕ) (active : Bool) (s : Stock) → HoldsFile d k i s → (plan : Plan) → Asks (i .«sample_count») plan → SameTick s (playedBy (wholeRead (fragments d k i)) i p phase active tt plan) (playedBy (cachedRead d k i) i p phase active s plan)
   same-played p phase active s ok Stop a = record { phase = refl; active = refl; value = refl; holds = ok; kept = record { valid = refl; variant = refl; info = refl; long = refl } }
   same-played p phase active s ok (Sample at from) a =
       let h = same-heard p (fraction phase) s ok at a in
       record { phase = refl; active = refl; value = h .value; holds = h .holds; kept = h .kept }
 
 -- ---- the law
-pub record TickSame (found : Opened) (d : List ℕ) (u : Ticked (Unit {0})) (t : Ticked Stock) : Type 0 where
+pub record TickSame (found : Opened) (d : List ℕ) (u : StreamTick (Unit {0})) (t : StreamTick Stock) : Type 0 where
   pub phase : t .phase ≡ u .phase
   pub active : t .active ≡ u .active
   pub value : t .value ≡ u .value
@@ -156,7 +156,7 @@ module _ (ram : List ℕ) (p : Play) (phase : ℕ) (active : Bool) where
   abbrev file : List ℕ
   file = part ram (p .start) (p .end - p .start)
 
-  abbrev plainly : Opened → Ticked (Unit {0})
+  abbrev plainly : Opened → StreamTick (Unit {0})
   plainly o = tickOf p phase active (plainFound (wholeIn file (inspected file)) o)
 
   from-valid : (k : Variant) (s : Stock) → s .cache .variant ≡ Is k → found ≡ File k (s .cache .info) → HoldsFile file k (s .cache .info) s → TickSame found file (plainly (File k (s .cache .info))) (tickOf p phase active (heldFound file s (Is k)))
@@ -193,7 +193,7 @@ module _ (ram : List ℕ) (p : Play) (phase : ℕ) (active : Bool) where
 
       held : s .cache .valid ≡ true → Valid found file s → TickSame found file (plainly found) (cachedTick ram p phase active s)
       held v w =
-          subst (λ (t : Ticked Stock). TickSame found file (plainly found) t) (tick-by ram p s phase active (heldFound file s (s .cache .variant)) (found-held ram p s room v a))
+          subst (λ (t : StreamTick Stock). TickSame found file (plainly found) t) (tick-by ram p s phase active (heldFound file s (s .cache .variant)) (found-held ram p s room v a))
           (subst (λ (o : Opened). TickSame found file (plainly o) (tickOf p phase active (heldFound file s (s .cache .variant)))) (sym (w .same))
           (subst (λ (h : Held). TickSame found file (plainly (File (w .variant) (s .cache .info))) (tickOf p phase active (heldFound file s h))) (sym (w .held))
           (from-valid (w .variant) s (w .held) (w .same) (w .holds))))
@@ -207,5 +207,5 @@ module _ (ram : List ℕ) (p : Play) (phase : ℕ) (active : Bool) where
       go : (b : Bool) → s .cache .valid ≡ b → TickSame found file (plainly found) (cachedTick ram p phase active s)
       go true v = held v (ok .valid v)
       go false v =
-          subst (λ (t : Ticked Stock). TickSame found file (plainly found) t) (tick-by ram p s phase active (freshFound file (s .samples) found) (found-fresh ram p s room v found refl))
+          subst (λ (t : StreamTick Stock). TickSame found file (plainly found) t) (tick-by ram p s phase active (freshFound file (s .samples) found) (found-fresh ram p s room v found refl))
           (fresh v found refl)

@@ -23,7 +23,7 @@ use Rattle.stream.specs.declared.StreamCache.{StreamCache}
 use Rattle.stream.specs.declared.Window.{Window}
 use Rattle.stream.specs.Cache.{Stock, stock}
 use Rattle.stream.specs.Accepted.{acceptsCache}
-use Rattle.stream.specs.Tick.{Given, Ticked, planOf, heardAt}
+use Rattle.stream.specs.Tick.{Given, StreamTick, planOf, heardAt}
 use Rattle.stream.specs.Cached.{tapAt, cachedRead, heldFound, cachedTick}
 use Rattle.stream.specs.Window.{isSome, holdsFrame, reachOf, windowOf, offsetIn, servesAt, placeIn, tapIn, valueIn}
 use Rattle.stream.proofs.Fragments.{samples-range}
@@ -229,7 +229,7 @@ module _ (c : StreamCache) (from : ℕ) (all : List ℤ) (base : ℕ) (size : le
     plan-is = choose (ltb at (info .«sample_count»)) _ _ (lt-ltb at (info .«sample_count») (omega (arith, seen .there)))
 
     -- a tick that the window serves: the cache and its samples stay, the phase steps, and the value is the window's
-    pub served-tick : _≡_ {A = Ticked Stock} (record { stream = stock c own; phase = stepped phase (p .step); active = active; value = value }) (cachedTick ram p phase active (stock c own))
+    pub served-tick : _≡_ {A = StreamTick Stock} (record { stream = stock c own; phase = stepped phase (p .step); active = active; value = value }) (cachedTick ram p phase active (stock c own))
     served-tick =
         sampled file (record { cache = c; phase = phase; active = active; q8 = pos 0 }) own p (taken .variant) (taken .held) at phase (fraction phase) (record { left = stock c own; sample = value }) (stepped phase (p .step)) plan-is refl heard refl
         ∙ tick-by ram p (stock c own) phase active (heldFound file (stock c own) (c .variant)) (found-held ram p (stock c own) (eq-eqb (length own) 128 own-length) (seen .valid) accepted)

@@ -17,7 +17,7 @@ use Rattle.stream.specs.declared.Streamed.{Streamed}
 use Rattle.stream.specs.File.{sourceOf, openedFrom}
 use Rattle.stream.specs.Cache.{Stock, stock, emptied, filledWith, ensureIn}
 use Rattle.stream.specs.Accepted.{acceptsCache}
-use Rattle.stream.specs.Tick.{Given, Ticked, Found, absent, unheard, present, tickOf}
+use Rattle.stream.specs.Tick.{Given, StreamTick, FoundFile, absent, unheard, present, tickOf}
 
 -- a decoded sample, where its fragment is in its half
 abbrev pub tapAt : ℕ → List ℤ → ℕ → ℤ
@@ -30,16 +30,16 @@ cachedRead d k i s at =
     record { left = e; sample = tapAt (i .version) (e .samples) at }
 
 -- a cache without a variant is not heard
-abbrev pub heldFound : List ℕ → Stock → Held → Found Stock
+abbrev pub heldFound : List ℕ → Stock → Held → FoundFile Stock
 heldFound d s Nothing = unheard s
 heldFound d s (Is k) = present (s .cache .info) (cachedRead d k (s .cache .info)) s
 
-abbrev pub freshFound : List ℕ → List ℤ → Opened → Found Stock
+abbrev pub freshFound : List ℕ → List ℤ → Opened → FoundFile Stock
 freshFound d samples NoFile = absent (stock emptied (replicate (length samples) (pos 0)))
 freshFound d samples (File k i) = heldFound d (stock (filledWith k i) samples) (Is k)
 
 -- a cache that is not accepted, or that has not its 128 samples, is not heard
-unfoldable pub cachedFound : List ℕ → Play → Stock → Found Stock
+unfoldable pub cachedFound : List ℕ → Play → Stock → FoundFile Stock
 cachedFound ram p s =
     let src = sourceOf ram (p .start) (p .end) in
     cond (eqb (length (s .samples)) 128)
@@ -48,9 +48,9 @@ cachedFound ram p s =
     (freshFound (src .bytes) (s .samples) (openedFrom src (p .«wants_v3») (p .start) (p .«loop_addr»))))
     (unheard s)
 
-unfoldable pub cachedTick : List ℕ → Play → ℕ → Bool → Stock → Ticked Stock
+unfoldable pub cachedTick : List ℕ → Play → ℕ → Bool → Stock → StreamTick Stock
 cachedTick ram p phase active s = tickOf p phase active (cachedFound ram p s)
 
 -- the voice's parts after it
-abbrev pub streamedOf : Ticked Stock → Streamed
+abbrev pub streamedOf : StreamTick Stock → Streamed
 streamedOf t = record { cache = t .stream .cache; phase = t .phase; active = t .active; q8 = t .value }

@@ -39,18 +39,18 @@ looped start again h =
 abbrev pub isWanted : Bool → ℕ → ℕ → Bool
 isWanted wants channels version = cond (eqb channels 1) (cond wants (eqb version 3) (not (eqb version 3))) false
 
-abbrev pub taken : Bool → ℕ → ℕ → Inspected → Opened
-taken wants start again (Accepted h) = cond (isWanted wants (h .channels) (h .version)) (looped start again h) NoFile
-taken wants start again TruncatedHeader = NoFile
-taken wants start again InvalidMagic = NoFile
-taken wants start again (UnsupportedVersion x) = NoFile
-taken wants start again (InvalidVariant x) = NoFile
-taken wants start again (InvalidChannels x) = NoFile
-taken wants start again (InvalidReservedByte x) = NoFile
-taken wants start again ZeroSampleRate = NoFile
-taken wants start again (InvalidFileLength e a) = NoFile
-taken wants start again (InvalidStepIndex x) = NoFile
-taken wants start again NonZeroPadding = NoFile
+abbrev pub openedAs : Bool → ℕ → ℕ → Inspected → Opened
+openedAs wants start again (Accepted h) = cond (isWanted wants (h .channels) (h .version)) (looped start again h) NoFile
+openedAs wants start again TruncatedHeader = NoFile
+openedAs wants start again InvalidMagic = NoFile
+openedAs wants start again (UnsupportedVersion x) = NoFile
+openedAs wants start again (InvalidVariant x) = NoFile
+openedAs wants start again (InvalidChannels x) = NoFile
+openedAs wants start again (InvalidReservedByte x) = NoFile
+openedAs wants start again ZeroSampleRate = NoFile
+openedAs wants start again (InvalidFileLength e a) = NoFile
+openedAs wants start again (InvalidStepIndex x) = NoFile
+openedAs wants start again NonZeroPadding = NoFile
 
 -- all that the RAM gives a voice: whether its part is there, and the bytes
 pub record Source : Type 0 where
@@ -62,7 +62,7 @@ sourceOf ram start end = record { there = cond (ltb start end) (leb end (length 
 
 -- what `initialize_sqv4` finds
 unfoldable pub openedFrom : Source → Bool → ℕ → ℕ → Opened
-openedFrom src wants start again = cond (src .there) (taken wants start again (inspected (src .bytes))) NoFile
+openedFrom src wants start again = cond (src .there) (openedAs wants start again (inspected (src .bytes))) NoFile
 
 abbrev pub openedIn : List ℕ → Bool → ℕ → ℕ → ℕ → Opened
 openedIn ram wants start end again = openedFrom (sourceOf ram start end) wants start again

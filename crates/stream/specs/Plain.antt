@@ -12,7 +12,7 @@ use Rattle.stream.specs.declared.Play.{Play}
 use Rattle.stream.specs.declared.Opened.{Opened}
 use Rattle.stream.specs.declared.Opened.the-variants.{NoFile, File}
 use Rattle.stream.specs.File.{sourceOf, openedFrom}
-use Rattle.stream.specs.Tick.{Given, Ticked, Found, absent, present, tickOf}
+use Rattle.stream.specs.Tick.{Given, StreamTick, FoundFile, absent, present, tickOf}
 
 abbrev pub wholeIn : List ℕ → Inspected → List ℤ
 wholeIn d (Accepted h) = channelWhole d h 0
@@ -27,14 +27,14 @@ wholeIn d (InvalidFileLength e a) = []
 wholeIn d (InvalidStepIndex x) = []
 wholeIn d NonZeroPadding = []
 
-abbrev pub plainRead : List ℤ → Unit {0} → ℕ → Given (Unit {0})
-plainRead samples u at = record { left = tt; sample = getD samples at (pos 0) }
+abbrev pub wholeRead : List ℤ → Unit {0} → ℕ → Given (Unit {0})
+wholeRead samples u at = record { left = tt; sample = getD samples at (pos 0) }
 
-abbrev pub plainFound : List ℤ → Opened → Found (Unit {0})
+abbrev pub plainFound : List ℤ → Opened → FoundFile (Unit {0})
 plainFound samples NoFile = absent tt
-plainFound samples (File k i) = present i (plainRead samples) tt
+plainFound samples (File k i) = present i (wholeRead samples) tt
 
-unfoldable pub plainTick : List ℕ → Play → ℕ → Bool → Ticked (Unit {0})
+unfoldable pub plainTick : List ℕ → Play → ℕ → Bool → StreamTick (Unit {0})
 plainTick ram p phase active =
     let src = sourceOf ram (p .start) (p .end) in
     tickOf p phase active (plainFound (wholeIn (src .bytes) (inspected (src .bytes))) (openedFrom src (p .«wants_v3») (p .start) (p .«loop_addr»)))

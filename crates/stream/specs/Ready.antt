@@ -15,5 +15,5 @@ pub record Ready (d : List ℕ) (c : StreamCache) : Type 0 where
   pub again : 0 < c .info .«sample_count» → c .info .«loop_sample» < c .info .«sample_count»
 
 -- the voice with a value and the cache after it
-abbrev pub heardAs : Streamed → Given Stock → Streamed
-heardAs v h = record { cache = h .left .cache; phase = v .phase; active = v .active; q8 = h .sample }
+abbrev pub withGiven : Streamed → Given Stock → Streamed
+withGiven v h = record { cache = h .left .cache; phase = v .phase; active = v .active; q8 = h .sample }

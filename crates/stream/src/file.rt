@@ -5,7 +5,7 @@ ghost use Prim.Native.Nat.{_+_, _^_, _<_, _≤_};
 ghost use lib.Dec.{eqb};
 ghost use lib.ListN.{length};
 ghost use Rattle.sqv4.specs.Files.{inspected};
-ghost use Rattle.stream.specs.File.{infoOf, looped, isWanted, taken, openedIn};
+ghost use Rattle.stream.specs.File.{infoOf, looped, isWanted, openedAs, openedIn};
 use crate::Info;
 use crate::Opened;
 use sqv4::Header;
@@ -72,7 +72,7 @@ fn is_wanted(wants_v3: bool, channels: u8, version: u8) -> bool
 
 fn open_bytes(file: &[u8], wants_v3: bool, start: usize, loop_addr: usize) -> Opened
     requires { ⌜ start + length (now file) < 2 ^ 64 ⌝ }
-    ensures { λ r. ⌜ r ≡ taken «wants_v3» start «loop_addr» (inspected (now (file .entry))) ⌝ }
+    ensures { λ r. ⌜ r ≡ openedAs «wants_v3» start «loop_addr» (inspected (now (file .entry))) ⌝ }
 {
     let inspected = sqv4::inspect(file);
     let Inspected::Accepted(header) = inspected else {

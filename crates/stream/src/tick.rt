@@ -6,9 +6,9 @@ ghost use Prim.Native.Nat.{_+_, _/_, _%_, _^_, _<_};
 ghost use lib.ListN.{length};
 ghost use Rattle.sqv4.specs.Files.{frameSamples};
 ghost use Rattle.stream.specs.Cache.{Plays, stock};
-ghost use Rattle.stream.specs.Tick.{planOf, mixes, heardAt, tickOf};
+ghost use Rattle.stream.specs.Tick.{planOf, blends, heardAt, tickOf};
 ghost use Rattle.stream.specs.Cached.{cachedRead, tapAt, heldFound, cachedTick, streamedOf};
-ghost use Rattle.stream.specs.Ready.{Ready, heardAs};
+ghost use Rattle.stream.specs.Ready.{Ready, withGiven};
 use crate::Held;
 use crate::Info;
 use crate::Opened;
@@ -57,7 +57,7 @@ pub(crate) fn within_of(version: u8, sample: usize) -> usize
 
 fn is_mixed(info: Info, p: Play, frac: u8, sample: usize) -> bool
     requires { ⌜ sample < info .«sample_count» ⌝ }
-    ensures { λ r. ⌜ r ≡ mixes info p frac sample ⌝ }
+    ensures { λ r. ⌜ r ≡ blends info p frac sample ⌝ }
     ensures { λ r. ⌜ (r ≡ true → sample + 1 < 2 ^ 64) ⌝ }
 {
     if p.interpolate {
@@ -107,7 +107,7 @@ impl Streamed {
         frac: u8,
     ) -> Streamed
         requires { ⌜ Plays (now file) variant (self .cache .info) ⌝ ∗ ⌜ length (now samples) ≡ 128 ⌝ ∗ ⌜ i < self .cache .info .«sample_count» ⌝ }
-        ensures { λ r. ⌜ r ≡ heardAs self (heardAt (cachedRead (now (file .entry)) variant (self .cache .info)) (self .cache .info) p frac (stock (self .cache) (now (samples .entry))) i) ⌝ }
+        ensures { λ r. ⌜ r ≡ withGiven self (heardAt (cachedRead (now (file .entry)) variant (self .cache .info)) (self .cache .info) p frac (stock (self .cache) (now (samples .entry))) i) ⌝ }
         ensures { λ _. ⌜ now (samples .exit) ≡ heardAt (cachedRead (now (file .entry)) variant (self .cache .info)) (self .cache .info) p frac (stock (self .cache) (now (samples .entry))) i .left .samples ⌝ }
     {
         let cache = self.cache;

@@ -15,6 +15,7 @@ use crate::wavetable::looks_at;
 use registers::PcmRegisters;
 use registers::Registers;
 use registers::WaveformType;
+use sizes::WAVETABLES_SIZE;
 
 fn either(first: bool, a: usize, b: usize) -> usize
     ensures { λ r. ⌜ r ≡ cond first a b ⌝ }
@@ -38,7 +39,13 @@ impl Sound {
         t
     }
 
-    fn wavetable(self, n: usize, s: Setting, wavetables: &[u8; 2048], base: usize) -> Sound
+    fn wavetable(
+        self,
+        n: usize,
+        s: Setting,
+        wavetables: &[u8; WAVETABLES_SIZE],
+        base: usize,
+    ) -> Sound
         requires { ⌜ (base ≤ 1792) × (looksAt (s .modulation) ≡ false) ⌝ }
         ensures { λ r. ⌜ r ≡ ticksOf n (wavetableTick s (now (wavetables .entry)) base) s false noTarget self ⌝ }
     {
@@ -54,7 +61,7 @@ impl Sound {
         self,
         n: usize,
         s: Setting,
-        wavetables: &[u8; 2048],
+        wavetables: &[u8; WAVETABLES_SIZE],
         base: usize,
         t: Target,
     ) -> Sound
@@ -74,7 +81,7 @@ impl Sound {
         self,
         n: usize,
         s: Setting,
-        wavetables: &[u8; 2048],
+        wavetables: &[u8; WAVETABLES_SIZE],
         base: usize,
         own: bool,
         t: Target,
@@ -168,7 +175,7 @@ impl Sound {
         g: Registers,
         s: Setting,
         p: PcmRegisters,
-        wavetables: &[u8; 2048],
+        wavetables: &[u8; WAVETABLES_SIZE],
         ram: &[u8],
         ch: usize,
         own: bool,

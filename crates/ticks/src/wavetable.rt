@@ -9,6 +9,7 @@ use crate::Oscillator;
 use crate::Setting;
 use crate::Target;
 use crate::Ticked;
+use sizes::WAVETABLES_SIZE;
 
 // Modulations 1 to 4 look at a target.
 pub(crate) fn looks_at(modulation: u8) -> bool
@@ -31,7 +32,13 @@ fn wave_place(phase: u64, s: Setting, t: Target) -> u8
     tone::wave_index(position, s.mask)
 }
 
-fn wave_tap(wavetables: &[u8; 2048], base: usize, index: u8, s: Setting, phase: u64) -> u16
+fn wave_tap(
+    wavetables: &[u8; WAVETABLES_SIZE],
+    base: usize,
+    index: u8,
+    s: Setting,
+    phase: u64,
+) -> u16
     requires { ⌜ base ≤ 1792 ⌝ }
     ensures { λ r. ⌜ r ≡ waveTap s (now (wavetables .entry)) base index phase ⌝ }
 {
@@ -75,7 +82,7 @@ impl Oscillator {
     pub(crate) fn wavetable_by(
         mut self,
         s: Setting,
-        wavetables: &[u8; 2048],
+        wavetables: &[u8; WAVETABLES_SIZE],
         base: usize,
         t: Target,
     ) -> Ticked
@@ -97,7 +104,7 @@ impl Oscillator {
     pub(crate) fn wavetable_alone(
         mut self,
         s: Setting,
-        wavetables: &[u8; 2048],
+        wavetables: &[u8; WAVETABLES_SIZE],
         base: usize,
     ) -> Ticked
         requires { ⌜ (base ≤ 1792) × (looksAt (s .modulation) ≡ false) ⌝ }

@@ -3,6 +3,7 @@ use mathlib.Core.Bool.{Bool, true, false, cond}
 use Prim.Native.Nat.{ℕ, zero, suc, _+_, _*_, _-_, _/_, _%_, _^_}
 use lib.Bits.{bitAnd}
 use lib.Dec.{eqb, ltb}
+use Rattle.sizes.specs.Sizes.{ramLeast}
 
 -- whether n is among k powers of two, p the first
 abbrev pub powerFrom : ℕ → ℕ → ℕ → Bool
@@ -11,7 +12,7 @@ powerFrom (suc k) p n = cond (eqb n p) true (powerFrom k (p * 2) n)
 
 -- a power of two from 256 to 16,777,216: the 17 from 2^8 on
 unfoldable pub isRamLength : ℕ → Bool
-isRamLength n = powerFrom 17 256 n
+isRamLength n = powerFrom 17 ramLeast n
 
 -- the position after the start, in 64 bits, masked by the length less one
 unfoldable pub pcmAddress : ℕ → ℕ → ℕ → ℕ

@@ -11,10 +11,10 @@ abbrev pub relative : ℕ → ℤ
 relative target = cond (ltb target 4) (pos target) (pos target -ℤ pos 8)
 
 -- back among the eight channels
-abbrev pub wrapped : ℤ → ℤ
-wrapped z = cond (ltZ z (pos 0)) (z +ℤ pos 8) (cond (leZ (pos 8) z) (z -ℤ pos 8) z)
+abbrev pub amongEight : ℤ → ℤ
+amongEight z = cond (ltZ z (pos 0)) (z +ℤ pos 8) (cond (leZ (pos 8) z) (z -ℤ pos 8) z)
 
 -- the low three bits keep a carrier above 7 there too
 unfoldable pub absoluteChannel : ℕ → ℕ → ℕ → ℕ
 absoluteChannel carrier mode target =
-    cond (eqb mode 0) (target % 8) (up (wrapped (pos carrier +ℤ relative (target % 8))) % 8)
+    cond (eqb mode 0) (target % 8) (up (amongEight (pos carrier +ℤ relative (target % 8))) % 8)

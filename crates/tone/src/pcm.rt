@@ -3,6 +3,7 @@ ghost use mathlib.Core.Path.{_≡_};
 ghost use Prim.Native.Nat.{_-_, _*_, _<_, _^_};
 ghost use Rattle.tone.specs.Pcm.{isRamLength, pcmAddress, pcmNext, pcmPhaseAfter, pcmIsOver};
 ghost use Rattle.tone.specs.Pcm.{loops as loopsIn};
+use sizes::RAM_MOST;
 
 // A power of two from 256 to 16,777,216.
 pub fn is_ram_length(length: usize) -> bool
@@ -11,7 +12,7 @@ pub fn is_ram_length(length: usize) -> bool
     if length < 256 {
         return false;
     }
-    if 16777216 < length {
+    if RAM_MOST < length {
         return false;
     }
     u32::count_ones(length as u32) == 1

@@ -4,7 +4,7 @@ use mathlib.Core.List.{List, [], _∷_}
 use Prim.Native.Nat.{ℕ}
 use Rattle.version.specs.declared.SguVersion.the-variants.{V1, «V2_1», V3, «V3_1»}
 use Rattle.version.specs.Spaces.{among, spaceWidth, leading, trailing, trimStartIn, trimEndIn}
-use Rattle.version.specs.Names.{dropV, sameText, named, parseVersion}
+use Rattle.version.specs.Names.{dropV, sameText, namedVersion, parseVersion}
 use Rattle.version.specs.declared.Parsed.{Parsed}
 use Rattle.version.specs.declared.Parsed.the-variants.{Version, Unknown}
 
@@ -25,5 +25,5 @@ pub examples : parsed
     ∷ ((224 ∷ (128 ∷ (160 ∷ (49 ∷ []))))
     ∷ ([] ∷ [])))))))))
     ≡ Version V1 ∷ (Version «V2_1» ∷ (Version V3 ∷ (Version «V3_1» ∷ (Unknown ∷ (Unknown ∷ (Unknown ∷ (Unknown ∷ (Unknown ∷ []))))))))
-unfolding parseVersion named sameText dropV trimStartIn trimEndIn leading trailing spaceWidth among
+unfolding parseVersion namedVersion sameText dropV trimStartIn trimEndIn leading trailing spaceWidth among
 examples = refl

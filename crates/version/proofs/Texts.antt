@@ -10,9 +10,9 @@ use lib.Dec.{eqb}
 use lib.ListN.{length, take, drop, getD, drop-of-length-le}
 use lib.Seq.{drop-cons, drop-drop, take-take, length-take-le}
 use borrow.Author.Tests.{eq-eqb, ne-eqb}
-use Rattle.version.specs.Spaces.{among, oneByte, twoBytes, threeBytes, spaceWidth, oneAt, twoAt, threeAt, leading, trailing, trimStartIn, trimEndIn, trimStart, trimEnd}
+use Rattle.version.specs.Spaces.{among, oneByte, twoBytes, threeBytes, spaceWidth, oneByteAt, twoBytesAt, threeBytesAt, leading, trailing, trimStartIn, trimEndIn, trimStart, trimEnd}
 use Rattle.version.specs.declared.SguVersion.the-variants.{V1, V2, «V2_1», V3, «V3_1»}
-use Rattle.version.specs.Names.{isV, dropV, sameText, eitherText, digit, point, named, parseVersion}
+use Rattle.version.specs.Names.{isV, dropV, sameText, eitherText, digitName, point, namedVersion, parseVersion}
 use Rattle.version.specs.declared.Parsed.the-variants.{Version, Unknown}
 
 -- ---- a table
@@ -49,11 +49,11 @@ module _ (one two three : ℕ) where
   unfolding spaceWidth
   width-none d e f = rw (d, e, f)
 
-  pub leading-is : (s : List ℕ) → one ≡ oneAt s 0 → two ≡ twoAt s 0 → three ≡ threeAt s 0 → spaceWidth one two three ≡ leading s
+  pub leading-is : (s : List ℕ) → one ≡ oneByteAt s 0 → two ≡ twoBytesAt s 0 → three ≡ threeBytesAt s 0 → spaceWidth one two three ≡ leading s
   unfolding leading
   leading-is s d e f = rw (d, e, f)
 
-  pub trailing-is : (s : List ℕ) (i j k : ℕ) → i ≡ length s - 1 → j ≡ length s - 2 → k ≡ length s - 3 → one ≡ oneAt s i → two ≡ twoAt s j → three ≡ threeAt s k → spaceWidth one two three ≡ trailing s
+  pub trailing-is : (s : List ℕ) (i j k : ℕ) → i ≡ length s - 1 → j ≡ length s - 2 → k ≡ length s - 3 → one ≡ oneByteAt s i → two ≡ twoBytesAt s j → three ≡ threeBytesAt s k → spaceWidth one two three ≡ trailing s
   unfolding trailing
   trailing-is s i j k a b c d e f = rw (d, e, f, a, b, c)
 
@@ -173,39 +173,39 @@ module _ (s : List ℕ) (rest : ℕ) (h : rest ≤ length s) where
 -- ---- names
 
 module _ (s : List ℕ) where
-  pub named-1 : eitherText s (digit 1) (point 1 0) ≡ true → Version V1 ≡ named s
-  unfolding named
+  pub named-1 : eitherText s (digitName 1) (point 1 0) ≡ true → Version V1 ≡ namedVersion s
+  unfolding namedVersion
   named-1 a = rw a
 
-  module _ (a : eitherText s (digit 1) (point 1 0) ≡ false) where
-    pub named-2 : eitherText s (digit 2) (point 2 0) ≡ true → Version V2 ≡ named s
-    unfolding named
+  module _ (a : eitherText s (digitName 1) (point 1 0) ≡ false) where
+    pub named-2 : eitherText s (digitName 2) (point 2 0) ≡ true → Version V2 ≡ namedVersion s
+    unfolding namedVersion
     named-2 b = rw (a, b)
 
-    module _ (b : eitherText s (digit 2) (point 2 0) ≡ false) where
-      pub named-2-1 : sameText s (point 2 1) ≡ true → Version «V2_1» ≡ named s
-      unfolding named
+    module _ (b : eitherText s (digitName 2) (point 2 0) ≡ false) where
+      pub named-2-1 : sameText s (point 2 1) ≡ true → Version «V2_1» ≡ namedVersion s
+      unfolding namedVersion
       named-2-1 d = rw (a, b, d)
 
       module _ (d : sameText s (point 2 1) ≡ false) where
-        pub named-3 : eitherText s (digit 3) (point 3 0) ≡ true → Version V3 ≡ named s
-        unfolding named
+        pub named-3 : eitherText s (digitName 3) (point 3 0) ≡ true → Version V3 ≡ namedVersion s
+        unfolding namedVersion
         named-3 e = rw (a, b, d, e)
 
-        module _ (e : eitherText s (digit 3) (point 3 0) ≡ false) where
-          pub named-3-1 : sameText s (point 3 1) ≡ true → Version «V3_1» ≡ named s
-          unfolding named
+        module _ (e : eitherText s (digitName 3) (point 3 0) ≡ false) where
+          pub named-3-1 : sameText s (point 3 1) ≡ true → Version «V3_1» ≡ namedVersion s
+          unfolding namedVersion
           named-3-1 f = rw (a, b, d, e, f)
 
-          pub named-none : sameText s (point 3 1) ≡ false → Unknown ≡ named s
-          unfolding named
+          pub named-none : sameText s (point 3 1) ≡ false → Unknown ≡ namedVersion s
+          unfolding namedVersion
           named-none f = rw (a, b, d, e, f)
 
 -- ---- the whole
 
-pub parse-is : (text t u w : List ℕ) (start end v : ℕ) → t ≡ drop start text → drop start text ≡ trimStart text → u ≡ take (end - 0) t → take end t ≡ trimEnd t → w ≡ drop v u → drop v u ≡ dropV u → named w ≡ parseVersion text
+pub parse-is : (text t u w : List ℕ) (start end v : ℕ) → t ≡ drop start text → drop start text ≡ trimStart text → u ≡ take (end - 0) t → take end t ≡ trimEnd t → w ≡ drop v u → drop v u ≡ dropV u → namedVersion w ≡ parseVersion text
 unfolding parseVersion
-parse-is text t u w start end v a b d e f g = ap named (f ∙ g ∙ ap dropV (d ∙ ap (λ (k : ℕ). take k t) (whole end) ∙ e ∙ ap trimEnd (a ∙ b)))
+parse-is text t u w start end v a b d e f g = ap namedVersion (f ∙ g ∙ ap dropV (d ∙ ap (λ (k : ℕ). take k t) (whole end) ∙ e ∙ ap trimEnd (a ∙ b)))
   where
     whole : (n : ℕ) → n - 0 ≡ n
     whole n = omega arith

@@ -26,20 +26,20 @@ abbrev pub eitherText : List ℕ → List ℕ → List ℕ → Bool
 eitherText s a b = sameText s a || sameText s b
 
 -- a digit, and two digits with a point between
-abbrev pub digit : ℕ → List ℕ
-digit a = (48 + a) ∷ []
+abbrev pub digitName : ℕ → List ℕ
+digitName a = (48 + a) ∷ []
 
 abbrev pub point : ℕ → ℕ → List ℕ
 point a b = (48 + a) ∷ (46 ∷ ((48 + b) ∷ []))
 
-unfoldable pub named : List ℕ → Parsed
-named s =
-    cond (eitherText s (digit 1) (point 1 0)) (Version V1)
-    (cond (eitherText s (digit 2) (point 2 0)) (Version V2)
+unfoldable pub namedVersion : List ℕ → Parsed
+namedVersion s =
+    cond (eitherText s (digitName 1) (point 1 0)) (Version V1)
+    (cond (eitherText s (digitName 2) (point 2 0)) (Version V2)
     (cond (sameText s (point 2 1)) (Version «V2_1»)
-    (cond (eitherText s (digit 3) (point 3 0)) (Version V3)
+    (cond (eitherText s (digitName 3) (point 3 0)) (Version V3)
     (cond (sameText s (point 3 1)) (Version «V3_1»)
     Unknown))))
 
 unfoldable pub parseVersion : List ℕ → Parsed
-parseVersion text = named (dropV (trimEnd (trimStart text)))
+parseVersion text = namedVersion (dropV (trimEnd (trimStart text)))

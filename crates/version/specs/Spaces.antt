@@ -42,21 +42,21 @@ spaceWidth one two three =
     cond (among one oneByte) 1 (cond (among two twoBytes) 2 (cond (among three threeBytes) 3 0))
 
 -- the number that one, two or three bytes from a place on make, 0 past the end
-abbrev pub oneAt : List ℕ → ℕ → ℕ
-oneAt s at = getD s at 0
+abbrev pub oneByteAt : List ℕ → ℕ → ℕ
+oneByteAt s at = getD s at 0
 
-abbrev pub twoAt : List ℕ → ℕ → ℕ
-twoAt s at = oneAt s at * 256 + getD s (at + 1) 0
+abbrev pub twoBytesAt : List ℕ → ℕ → ℕ
+twoBytesAt s at = oneByteAt s at * 256 + getD s (at + 1) 0
 
-abbrev pub threeAt : List ℕ → ℕ → ℕ
-threeAt s at = twoAt s at * 256 + getD s (at + 2) 0
+abbrev pub threeBytesAt : List ℕ → ℕ → ℕ
+threeBytesAt s at = twoBytesAt s at * 256 + getD s (at + 2) 0
 
 -- the bytes of the white space that a text begins with, and of that which it ends with
 unfoldable pub leading : List ℕ → ℕ
-leading s = spaceWidth (oneAt s 0) (twoAt s 0) (threeAt s 0)
+leading s = spaceWidth (oneByteAt s 0) (twoBytesAt s 0) (threeBytesAt s 0)
 
 unfoldable pub trailing : List ℕ → ℕ
-trailing s = spaceWidth (oneAt s (length s - 1)) (twoAt s (length s - 2)) (threeAt s (length s - 3))
+trailing s = spaceWidth (oneByteAt s (length s - 1)) (twoBytesAt s (length s - 2)) (threeBytesAt s (length s - 3))
 
 -- ---- a text without it, in at most n steps
 

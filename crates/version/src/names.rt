@@ -1,7 +1,7 @@
 // The versions' names.
 ghost use mathlib.Core.Path.{_≡_};
 ghost use lib.ListN.{drop};
-ghost use Rattle.version.specs.Names.{isV, dropV, sameText, eitherText, named as namedBy, parseVersion};
+ghost use Rattle.version.specs.Names.{isV, dropV, sameText, eitherText, namedVersion as namedBy, parseVersion};
 use crate::Parsed;
 use crate::SguVersion;
 use crate::spaces::text_end;

@@ -2,7 +2,7 @@
 ghost use mathlib.Core.Path.{_≡_};
 ghost use Prim.Native.Nat.{_+_, _-_, _<_, _^_};
 ghost use lib.ListN.{take, drop};
-ghost use Rattle.version.specs.Spaces.{among as amongIn, spaceWidth, oneAt, twoAt, threeAt, leading as leadingOf, trailing as trailingOf, trimStart, trimEnd};
+ghost use Rattle.version.specs.Spaces.{among as amongIn, spaceWidth, oneByteAt, twoBytesAt, threeBytesAt, leading as leadingOf, trailing as trailingOf, trimStart, trimEnd};
 
 // The characters of one, two and three bytes; the first byte is the highest.
 const ONE: [u32; 6] = [0x09, 0x0A, 0x0B, 0x0C, 0x0D, 0x20];
@@ -60,21 +60,21 @@ fn space_width(one: u32, two: u32, three: u32) -> usize
 
 // The number that one, two or three bytes make, 0 past the end.
 fn one_at(s: &[u8], at: usize) -> u32
-    ensures { λ r. ⌜ (r ≡ oneAt (now (s .entry)) at) × (r < 2 ^ 8) ⌝ }
+    ensures { λ r. ⌜ (r ≡ oneByteAt (now (s .entry)) at) × (r < 2 ^ 8) ⌝ }
 {
     num::byte_at(s, at) as u32
 }
 
 fn two_at(s: &[u8], at: usize) -> u32
     requires { ⌜ at + 1 < 2 ^ 64 ⌝ }
-    ensures { λ r. ⌜ (r ≡ twoAt (now (s .entry)) at) × (r < 2 ^ 16) ⌝ }
+    ensures { λ r. ⌜ (r ≡ twoBytesAt (now (s .entry)) at) × (r < 2 ^ 16) ⌝ }
 {
     one_at(s, at) * 256 + one_at(s, at + 1)
 }
 
 fn three_at(s: &[u8], at: usize) -> u32
     requires { ⌜ at + 2 < 2 ^ 64 ⌝ }
-    ensures { λ r. ⌜ r ≡ threeAt (now (s .entry)) at ⌝ }
+    ensures { λ r. ⌜ r ≡ threeBytesAt (now (s .entry)) at ⌝ }
 {
     two_at(s, at) * 256 + one_at(s, at + 2)
 }

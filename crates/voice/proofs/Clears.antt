@@ -9,7 +9,7 @@ use Rattle.version.specs.declared.SguVersion.{SguVersion}
 use Rattle.stream.specs.Cache.{emptied}
 use Rattle.voice.specs.Writes.{restarted, writeControl, writePcmReg}
 use Rattle.voice.specs.Reads.{afterRead}
-use Rattle.voice.specs.Channel.{setVersion}
+use Rattle.voice.specs.Channel.{setChannelVersion}
 use Rattle.voice.specs.declared.Channel.{Channel}
 
 module _ (c : Channel) where
@@ -40,6 +40,6 @@ module _ (c : Channel) where
   unfolding writePcmReg
   pcm-write-empties offset value h = rw (le-leb offset 9 h)
 
-  pub version-empties : (version : SguVersion) → (setVersion c version .fifo ≡ defaultFifo) × (setVersion c version .stream ≡ emptied)
-  unfolding setVersion
+  pub version-empties : (version : SguVersion) → (setChannelVersion c version .fifo ≡ defaultFifo) × (setChannelVersion c version .stream ≡ emptied)
+  unfolding setChannelVersion
   version-empties version = (refl, refl)

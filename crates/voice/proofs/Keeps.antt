@@ -20,7 +20,7 @@ use Rattle.registers.proofs.Accepted.{accepted-registers, registers-accepted, w
 use Rattle.stream.specs.Accepted.{acceptsCache}
 use Rattle.ticks.specs.Oscillators.{acceptsOscillator, setPhase}
 use Rattle.ticks.specs.declared.Oscillator.{Oscillator}
-use Rattle.voice.specs.Channel.{defaultChannel, setFifo, setPcm, setRegisters, setVersion}
+use Rattle.voice.specs.Channel.{defaultChannel, setFifo, setPcm, setRegisters, setChannelVersion}
 use Rattle.voice.specs.Kinds.{oscillatorRestarted}
 use Rattle.voice.specs.Writes.{waveformWritten, restarted, latchWritten, sampleWritten, sampleControlWritten, writeControl, writePcmReg}
 use Rattle.voice.specs.Reads.{afterRead}
@@ -100,8 +100,8 @@ pub default-accepted : (version : SguVersion) (length : ℕ) → AcceptedChannel
 unfolding acceptsOscillator acceptsStream
 default-accepted version length = record { registers = default-registers version; pcm = default-pcm; oscillator = refl; fifo = default-fifo; stream = refl }
 
-pub version-accepted : (c : Channel) (old version : SguVersion) (length longer : ℕ) → AcceptedChannel c old length → AcceptedChannel (setVersion c version) version longer
-unfolding setVersion acceptsStream
+pub version-accepted : (c : Channel) (old version : SguVersion) (length longer : ℕ) → AcceptedChannel c old length → AcceptedChannel (setChannelVersion c version) version longer
+unfolding setChannelVersion acceptsStream
 version-accepted c old version length longer a =
     record { registers = waveform-accepted (c .registers) old version (c .registers .«waveform_type») (a .registers); pcm = a .pcm; oscillator = a .oscillator; fifo = default-fifo; stream = refl }
 

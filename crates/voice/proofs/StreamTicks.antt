@@ -13,7 +13,7 @@ use Rattle.num.specs.Lists.{part}
 use lib.IntN.{ℤ}
 use Rattle.tone.specs.Mix.{streamVolumeOf}
 use Rattle.stream.specs.Cache.{Stock, stock}
-use Rattle.stream.specs.Tick.{Ticked}
+use Rattle.stream.specs.Tick.{StreamTick}
 use Rattle.stream.specs.Cached.{cachedTick, streamedOf}
 use Rattle.stream.specs.declared.Play.{Play}
 use Rattle.stream.specs.declared.Streamed.{Streamed}
@@ -29,7 +29,7 @@ put-part l ys a n r e =
     ∙ sym (append-assoc (take a l) ys (drop (a + length ys) l)) ∙ sym (sets-eq ys l a (omega arith))
 
 module _ (ram : List ℕ) (p : Play) (volume panpot : ℕ) (v : StreamSound) (samples : List ℤ) where
-  abbrev next : Ticked Stock
+  abbrev next : StreamTick Stock
   next = cachedTick ram p (v .voice .phase) (v .voice .active) (stock (v .voice .cache) samples)
 
   pub ticked : (voice : Streamed) (sides : Sides) (after : List ℤ) → v .voice .active ≡ true → voice ≡ streamedOf next → after ≡ next .stream .samples

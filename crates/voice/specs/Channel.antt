@@ -34,6 +34,6 @@ abbrev pub setRegisters : Channel → Registers → Channel
 setRegisters c x = record { oscillator = c .oscillator; fifo = c .fifo; stream = c .stream; pcm = c .pcm; registers = x }
 
 -- ---- under another version: a FIFO voice becomes a wavetable voice where there is none; queue and cache are emptied
-unfoldable pub setVersion : Channel → SguVersion → Channel
-setVersion c version =
+unfoldable pub setChannelVersion : Channel → SguVersion → Channel
+setChannelVersion c version =
     setStream (setFifo (setRegisters c (setWaveform (c .registers) (under (c .registers .«waveform_type») version))) defaultFifo) emptied

@@ -28,8 +28,8 @@ abbrev pub kindOf : Channel → Kind
 kindOf c = cond (c .pcm .active) (soundingOf (c .registers .«waveform_type»)) Silent
 
 -- ---- an oscillator's ticks
-abbrev pub soundOf : Channel → Sound
-soundOf c = record { oscillator = c .oscillator; sides = silence }
+abbrev pub silentSound : Channel → Sound
+silentSound c = record { oscillator = c .oscillator; sides = silence }
 
 abbrev pub afterSound : Channel → Sound → Channel
 afterSound c v = setOscillator c (v .oscillator)

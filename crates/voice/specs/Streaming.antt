@@ -9,7 +9,7 @@ use lib.IntN.{ℤ}
 use Rattle.num.specs.Lists.{part}
 use Rattle.tone.specs.Mix.{streamVolumeOf}
 use Rattle.stream.specs.Cache.{Stock, stock}
-use Rattle.stream.specs.Tick.{Ticked}
+use Rattle.stream.specs.Tick.{StreamTick}
 use Rattle.stream.specs.Cached.{cachedTick, streamedOf}
 use Rattle.stream.specs.declared.Play.{Play}
 use Rattle.ticks.specs.Again.{again}
@@ -26,7 +26,7 @@ abbrev pub lent : StreamSound → List ℤ → Lent
 lent v samples = record { sound = v; samples = samples }
 
 -- a tick's value on the sides, by volume and panpot
-abbrev pub streamHeard : ℕ → ℕ → Sides → Ticked Stock → Lent
+abbrev pub streamHeard : ℕ → ℕ → Sides → StreamTick Stock → Lent
 streamHeard volume panpot sides t =
     lent (record { voice = streamedOf t; sides = heard sides (streamVolumeOf (t .value) volume) panpot }) (t .stream .samples)
 

@@ -2,7 +2,7 @@
 ghost use mathlib.Core.Path.{_≡_};
 ghost use Rattle.registers.specs.Queue.{defaultFifo};
 ghost use Rattle.stream.specs.Cache.{emptied};
-ghost use Rattle.voice.specs.Channel.{defaultChannel, setFifo, setStream, setVersion};
+ghost use Rattle.voice.specs.Channel.{defaultChannel, setFifo, setStream, setChannelVersion};
 use crate::Channel;
 use registers::Fifo;
 use registers::PcmRegisters;
@@ -49,7 +49,7 @@ impl Channel {
 
     // The channel under another version: without FIFO where there is none; queue and cache are emptied.
     pub fn set_version(mut self, version: SguVersion) -> Channel
-        ensures { λ r. ⌜ r ≡ setVersion self version ⌝ }
+        ensures { λ r. ⌜ r ≡ setChannelVersion self version ⌝ }
     {
         let g = self.registers;
         let w = g.waveform_type;

@@ -4,7 +4,7 @@ ghost use Prim.Native.Nat.{_<_};
 ghost use Rattle.registers.specs.Control.{targetChannel};
 ghost use Rattle.ticks.specs.Oscillators.{targetFrom};
 ghost use Rattle.ticks.specs.Settings.{settingOf};
-ghost use Rattle.voice.specs.Sounding.{playOf, kindOf, soundOf, afterSound, queueSoundOf, afterQueue, servedOf, windowAt, afterServed, streamSoundOf, afterStream};
+ghost use Rattle.voice.specs.Sounding.{playOf, kindOf, silentSound, afterSound, queueSoundOf, afterQueue, servedOf, windowAt, afterServed, streamSoundOf, afterStream};
 ghost use Rattle.voice.specs.Kinds.{soundingOf};
 use crate::Channel;
 use crate::Kind;
@@ -75,7 +75,7 @@ impl Channel {
 
     // What its ticks move, with nothing given to the sides.
     pub fn sound(self) -> Sound
-        ensures { λ r. ⌜ r ≡ soundOf self ⌝ }
+        ensures { λ r. ⌜ r ≡ silentSound self ⌝ }
     {
         let oscillator = self.oscillator;
         Sound {

@@ -7,6 +7,7 @@ use native.Mathlib.Decide.{decLt}
 use lib.Dec.{eqb, ltb}
 use lib.ListN.{getD-replicate}
 use borrow.Author.Tests.{eqb-true, eqb-false}
+use Rattle.sizes.specs.Sizes.{numChannels, registersEnd, wavetablesSize}
 use Rattle.num.proofs.Choice.{cond-by, together}
 use Rattle.version.specs.declared.SguVersion.{SguVersion}
 use Rattle.stream.specs.Cache.{emptied}
@@ -44,7 +45,7 @@ module _ (k : Core) (version : SguVersion) (ram : ℕ) where
 pub fresh-accepted : (version : SguVersion) (ram : ℕ) → AcceptedCore freshCore version ram
 fresh-accepted version ram = record {
   sized = fresh-sized;
-  each = λ j h. subst (λ (c : Channel). AcceptedChannel c version ram) (sym (getD-replicate 8 j defaultChannel noChannel h)) (default-accepted version ram);
+  each = λ j h. subst (λ (c : Channel). AcceptedChannel c version ram) (sym (getD-replicate numChannels j defaultChannel noChannel h)) (default-accepted version ram);
 }
 
 -- ---- one voice changed
@@ -59,12 +60,12 @@ module _ (k : Core) (version : SguVersion) (ram : ℕ) (a : AcceptedCore k versi
   pub one-kept : {r : Core} {ch : ℕ} {v : Voice} → Changed k r ch v → AcceptedChannel (v .channel) version ram → AcceptedCore r version ram
   one-kept {r} {ch} {v} m c = record { sized = m .sized; each = λ j h. at j h (eqb j ch) refl }
     where
-      at : (j : ℕ) → j < 8 → (t : Bool) → eqb j ch ≡ t → AcceptedChannel (channelAt r j) version ram
+      at : (j : ℕ) → j < numChannels → (t : Bool) → eqb j ch ≡ t → AcceptedChannel (channelAt r j) version ram
       at j h true e = subst fine (sym (ap (λ (x : Voice). x .channel) (m .own)) ∙ ap (channelAt r) (sym (eqb-true j ch e))) c
       at j h false e = subst fine (sym (ap (λ (x : Voice). x .channel) (m .others j (eqb-false j ch e)))) (a .each j h)
 
   -- a channel above 7 leaves it as it is
-  either : (ch : ℕ) {r : Core} → (ch < 8 → AcceptedCore r version ram) → (8 ≤ ch → k ≡ r) → AcceptedCore r version ram
+  either : (ch : ℕ) {r : Core} → (ch < numChannels → AcceptedCore r version ram) → (8 ≤ ch → k ≡ r) → AcceptedCore r version ram
   either ch f g = elim (decLt ch 8) [ yes h ↦ f h | no h ↦ subst ok (g (omega arith)) a ]
 
   pub control-kept : (ch offset value : ℕ) → AcceptedCore (writeChannelControl version k ch offset value) version ram
@@ -93,14 +94,14 @@ module _ (k : Core) (version : SguVersion) (ram : ℕ) (a : AcceptedCore k versi
   pub register-kept : (address value : ℕ) → value < 256 → AcceptedCore (writeRegister version k address value) version ram
   unfolding writeRegister
   register-kept address value b =
-      cond-by ok (ltb address 2048) _ _ (λ e. wavetable-kept address value)
-      (λ e. cond-by ok (ltb address 2304) _ _ (λ e. block-kept (channelOf address) (offsetOf address) value b) (λ e. a))
+      cond-by ok (ltb address wavetablesSize) _ _ (λ e. wavetable-kept address value)
+      (λ e. cond-by ok (ltb address registersEnd) _ _ (λ e. block-kept (channelOf address) (offsetOf address) value b) (λ e. a))
 
   pub read-register-kept : (address : ℕ) → AcceptedCore (afterReadRegister k address) version ram
   unfolding afterReadRegister
   read-register-kept address =
-      cond-by ok (ltb address 2048) _ _ (λ e. a)
-      (λ e. cond-by ok (ltb address 2304) _ _ (λ e. read-channel-kept (channelOf address) (offsetOf address)) (λ e. a))
+      cond-by ok (ltb address wavetablesSize) _ _ (λ e. a)
+      (λ e. cond-by ok (ltb address registersEnd) _ _ (λ e. read-channel-kept (channelOf address) (offsetOf address)) (λ e. a))
 
   -- ---- all voices
   emptied-kept : (c : Channel) → AcceptedChannel c version ram → AcceptedChannel (setStream c emptied) version ram

@@ -9,6 +9,7 @@ use lib.IntN.{ℤ}
 use lib.ListN.{length, take, drop, set, getD}
 use borrow.Author.Tests.{lt-ltb, le-ltb, eq-eqb, ne-eqb}
 use borrow.Rule.Slice.PartMut.{putMid, put-same}
+use Rattle.sizes.specs.Sizes.{fifoCapacity, numChannels, queueBuffer, registersEnd, wavetablesSize}
 use Rattle.version.specs.declared.SguVersion.{SguVersion}
 use Rattle.voice.specs.Writes.{emptiesCache, writeControl, writeControlEntries, writePcmReg}
 use Rattle.voice.specs.declared.Channel.{Channel}
@@ -16,7 +17,7 @@ use Rattle.voice.proofs.Tests.{first-arm, second-arm}
 use Rattle.voices.specs.Addresses.{channelOf, offsetOf, isControl}
 use Rattle.voices.specs.Core.{channelAt, setWavetables, storedChannel}
 use Rattle.voices.specs.Writes.{writeChannelControl, writeChannelControlQueues, writeChannelPcmReg, writeWavetable, writeBlock, writeBlockQueues, writeRegister, writeRegisterQueues, afterRamWriteAt, afterRamWriteTo}
-use Rattle.voices.specs.Lists.{blockChannel, blockEntries, blockEmpties, Written, written, registersWritten, afterRamWrites}
+use Rattle.voices.specs.Lists.{blockChannel, blockEntries, blockEmpties, FedCore, fedCore, registersWritten, afterRamWrites}
 use Rattle.voices.specs.declared.Core.{Core}
 use Rattle.voices.proofs.Chosen.{write-in, write-pcm-in, register-low, register-block, register-above, register-queues-low, register-queues-block, register-queues-above}
 use Rattle.voices.proofs.Storing.{voice-queues}
@@ -60,7 +61,7 @@ module _ (offset : ℕ) where
       unfolding blockEntries
       entries-pcm e = sym (ap (λ (t : Bool). cond t (writeControlEntries version c q offset value) q) e)
 
-module _ (version : SguVersion) (k : Core) (ch offset value : ℕ) (h : ch < 8) where
+module _ (version : SguVersion) (k : Core) (ch offset value : ℕ) (h : ch < numChannels) where
   pub block-stored : storedChannel k ch (blockChannel version (channelAt k ch) offset value) (blockEmpties offset) ≡ writeBlock version k ch offset value
   unfolding blockChannel blockEmpties writeBlock
   block-stored = by (isControl offset)
@@ -70,15 +71,15 @@ module _ (version : SguVersion) (k : Core) (ch offset value : ℕ) (h : ch < 8) 
       by true = write-in k ch version offset value h
       by false = write-pcm-in k ch (offset - 16) value h
 
-  pub block-queues : (q ys : List ℤ) → length q ≡ 16384 → ys ≡ blockEntries version (channelAt k ch) (take (ch * 2048 + 2048 - ch * 2048) (drop (ch * 2048) q)) offset value
-      → putMid (ch * 2048) (ch * 2048 + 2048 - ch * 2048) q ys ≡ writeBlockQueues version k q ch offset value
+  pub block-queues : (q ys : List ℤ) → length q ≡ queueBuffer → ys ≡ blockEntries version (channelAt k ch) (take (ch * fifoCapacity + fifoCapacity - ch * fifoCapacity) (drop (ch * fifoCapacity) q)) offset value
+      → putMid (ch * fifoCapacity) (ch * fifoCapacity + fifoCapacity - ch * fifoCapacity) q ys ≡ writeBlockQueues version k q ch offset value
   unfolding blockEntries writeBlockQueues
   block-queues q ys n e = by (isControl offset) e
     where
-      by : (t : Bool) → ys ≡ cond t (writeControlEntries version (channelAt k ch) (take (ch * 2048 + 2048 - ch * 2048) (drop (ch * 2048) q)) offset value) (take (ch * 2048 + 2048 - ch * 2048) (drop (ch * 2048) q))
-          → putMid (ch * 2048) (ch * 2048 + 2048 - ch * 2048) q ys ≡ cond t (writeChannelControlQueues version k q ch offset value) q
+      by : (t : Bool) → ys ≡ cond t (writeControlEntries version (channelAt k ch) (take (ch * fifoCapacity + fifoCapacity - ch * fifoCapacity) (drop (ch * fifoCapacity) q)) offset value) (take (ch * fifoCapacity + fifoCapacity - ch * fifoCapacity) (drop (ch * fifoCapacity) q))
+          → putMid (ch * fifoCapacity) (ch * fifoCapacity + fifoCapacity - ch * fifoCapacity) q ys ≡ cond t (writeChannelControlQueues version k q ch offset value) q
       by true e = voice-queues version k q ys ch offset value h n e
-      by false e = ap (putMid (ch * 2048) (ch * 2048 + 2048 - ch * 2048) q) e ∙ put-same (ch * 2048) (ch * 2048 + 2048 - ch * 2048) q
+      by false e = ap (putMid (ch * fifoCapacity) (ch * fifoCapacity + fifoCapacity - ch * fifoCapacity) q) e ∙ put-same (ch * fifoCapacity) (ch * fifoCapacity + fifoCapacity - ch * fifoCapacity) q
 
 -- ---- one register
 pub record Wrote (version : SguVersion) (k : Core) (q : List ℤ) (address value : ℕ) (r : Core) (l : List ℤ) : Type 0 where
@@ -86,13 +87,13 @@ pub record Wrote (version : SguVersion) (k : Core) (q : List ℤ) (address value
   pub queues : l ≡ writeRegisterQueues version k q address value
 
 module _ (version : SguVersion) (k : Core) (q : List ℤ) (address value : ℕ) (r : Core) (l : List ℤ) where
-  pub wrote-wavetable : address < 2048 → r ≡ setWavetables k (set (k .wavetables) address value) → l ≡ q → Wrote version k q address value r l
+  pub wrote-wavetable : address < wavetablesSize → r ≡ setWavetables k (set (k .wavetables) address value) → l ≡ q → Wrote version k q address value r l
   unfolding writeWavetable
   wrote-wavetable h e f = record { core = e ∙ register-low version k address value h; queues = f ∙ register-queues-low version k address value q h }
 
-  pub wrote-block : (ch offset : ℕ) (c : Channel) (t : Bool) (ys : List ℤ) → length q ≡ 16384 → 2048 ≤ address → address < 2304 → ch < 8 → ch ≡ channelOf address → offset ≡ offsetOf address
-      → c ≡ blockChannel version (channelAt k ch) offset value → t ≡ blockEmpties offset → ys ≡ blockEntries version (channelAt k ch) (take (ch * 2048 + 2048 - ch * 2048) (drop (ch * 2048) q)) offset value
-      → r ≡ storedChannel k ch c t → l ≡ putMid (ch * 2048) (ch * 2048 + 2048 - ch * 2048) q ys → Wrote version k q address value r l
+  pub wrote-block : (ch offset : ℕ) (c : Channel) (t : Bool) (ys : List ℤ) → length q ≡ queueBuffer → wavetablesSize ≤ address → address < registersEnd → ch < numChannels → ch ≡ channelOf address → offset ≡ offsetOf address
+      → c ≡ blockChannel version (channelAt k ch) offset value → t ≡ blockEmpties offset → ys ≡ blockEntries version (channelAt k ch) (take (ch * fifoCapacity + fifoCapacity - ch * fifoCapacity) (drop (ch * fifoCapacity) q)) offset value
+      → r ≡ storedChannel k ch c t → l ≡ putMid (ch * fifoCapacity) (ch * fifoCapacity + fifoCapacity - ch * fifoCapacity) q ys → Wrote version k q address value r l
   wrote-block ch offset c t ys n g h m a b e d i x y = record {
     core =
         x ∙ ap₂ (storedChannel k ch) e d ∙ block-stored version k ch offset value m
@@ -102,32 +103,32 @@ module _ (version : SguVersion) (k : Core) (q : List ℤ) (address value : ℕ) 
         ∙ ap₂ (λ (u v : ℕ). writeBlockQueues version k q u v value) a b ∙ register-queues-block version k address value q g h;
   }
 
-  pub wrote-above : 2048 ≤ address → 2304 ≤ address → r ≡ k → l ≡ q → Wrote version k q address value r l
+  pub wrote-above : wavetablesSize ≤ address → registersEnd ≤ address → r ≡ k → l ≡ q → Wrote version k q address value r l
   wrote-above g h e f = record { core = e ∙ register-above version k address value g h; queues = f ∙ register-queues-above version k address value q g h }
 
 -- ---- register after register
 module _ (version : SguVersion) (addresses values : List ℕ) (k : Core) (q : List ℤ) where
-  abbrev pub done : ℕ → Written
-  done i = registersWritten version i addresses values (written k q)
+  abbrev pub done : ℕ → FedCore
+  done i = registersWritten version i addresses values (fedCore k q)
 
-  done-more : (i : ℕ) → _≡_ {A = Written} (record { core = writeRegister version (done i .core) (getD addresses i 0) (getD values i 0); queues = writeRegisterQueues version (done i .core) (done i .queues) (getD addresses i 0) (getD values i 0) }) (done (i + 1))
+  done-more : (i : ℕ) → _≡_ {A = FedCore} (record { core = writeRegister version (done i .core) (getD addresses i 0) (getD values i 0); queues = writeRegisterQueues version (done i .core) (done i .queues) (getD addresses i 0) (getD values i 0) }) (done (i + 1))
   unfolding registersWritten
-  done-more i = ap (λ (m : ℕ). registersWritten version m addresses values (written k q)) (sym (add-one i))
+  done-more i = ap (λ (m : ℕ). registersWritten version m addresses values (fedCore k q)) (sym (add-one i))
 
   -- before register i
   pub record Writing (i : ℕ) (r : Core) (l : List ℤ) : Type 0 where
     pub after : r ≡ done i .core
     pub entries : l ≡ done i .queues
-    pub long : length l ≡ 16384
+    pub long : length l ≡ queueBuffer
 
-  pub none : length q ≡ 16384 → Writing 0 k q
+  pub none : length q ≡ queueBuffer → Writing 0 k q
   unfolding registersWritten
   none n = record { after = refl; entries = refl; long = n }
 
   pub more : (i : ℕ) (r x : Core) (l m : List ℤ) → Writing i r l → Wrote version r l (getD addresses i 0) (getD values i 0) x m → Writing (i + 1) x m
   more i r x l m g w = record {
-    after = w .core ∙ ap (λ (y : Core). writeRegister version y (getD addresses i 0) (getD values i 0)) (g .after) ∙ ap (λ (s : Written). s .core) (done-more i);
-    entries = w .queues ∙ ap₂ (λ (y : Core) (z : List ℤ). writeRegisterQueues version y z (getD addresses i 0) (getD values i 0)) (g .after) (g .entries) ∙ ap (λ (s : Written). s .queues) (done-more i);
+    after = w .core ∙ ap (λ (y : Core). writeRegister version y (getD addresses i 0) (getD values i 0)) (g .after) ∙ ap (λ (s : FedCore). s .core) (done-more i);
+    entries = w .queues ∙ ap₂ (λ (y : Core) (z : List ℤ). writeRegisterQueues version y z (getD addresses i 0) (getD values i 0)) (g .after) (g .entries) ∙ ap (λ (s : FedCore). s .queues) (done-more i);
     long = ap length (w .queues) ∙ length-register-queues version r l (getD addresses i 0) (getD values i 0) ∙ g .long;
   }
 

@@ -12,7 +12,7 @@ use lib.Seq.{sets}
 use Rattle.num.proofs.Choice.{both, together, never}
 use Rattle.version.specs.declared.SguVersion.{SguVersion}
 use Rattle.stream.specs.Cache.{emptied}
-use Rattle.voice.specs.Channel.{setStream, setVersion}
+use Rattle.voice.specs.Channel.{setStream, setChannelVersion}
 use Rattle.voice.specs.Reads.{streamsFrom}
 use Rattle.voice.specs.Accepted.{acceptsChannel}
 use Rattle.voice.specs.declared.Channel.{Channel}
@@ -26,19 +26,19 @@ use Rattle.voices.proofs.Parts.{sets-more, changed, changed-more, chang
 -- ---- another version
 module _ (k : Core) (version : SguVersion) where
   abbrev pub underTo : ℕ → Core
-  underTo n = setChannels k (changed (λ (c : Channel). setVersion c version) n (k .channels))
+  underTo n = setChannels k (changed (λ (c : Channel). setChannelVersion c version) n (k .channels))
 
-  pub under-more : (n : ℕ) (r : Core) (c : Channel) → r ≡ underTo n → c ≡ setVersion (channelAt r n) version → setChannels r (set (r .channels) n c) ≡ underTo (n + 1)
+  pub under-more : (n : ℕ) (r : Core) (c : Channel) → r ≡ underTo n → c ≡ setChannelVersion (channelAt r n) version → setChannels r (set (r .channels) n c) ≡ underTo (n + 1)
   under-more n r c e h =
       ap (λ (x : Channel). setChannels r (set (r .channels) n x)) h
-      ∙ ap (λ (x : Core). setChannels x (set (x .channels) n (setVersion (channelAt x n) version))) e
-      ∙ ap (setChannels k) (changed-more (λ (c : Channel). setVersion c version) noChannel n (k .channels) ∙ ap (λ (m : ℕ). changed (λ (c : Channel). setVersion c version) m (k .channels)) (sym (add-one n)))
+      ∙ ap (λ (x : Core). setChannels x (set (x .channels) n (setChannelVersion (channelAt x n) version))) e
+      ∙ ap (setChannels k) (changed-more (λ (c : Channel). setChannelVersion c version) noChannel n (k .channels) ∙ ap (λ (m : ℕ). changed (λ (c : Channel). setChannelVersion c version) m (k .channels)) (sym (add-one n)))
 
   pub under-all : (n : ℕ) (r : Core) → r ≡ underTo n → length (k .channels) ≤ n → _≡_ {A = Core} (record { channels = r .channels; fragments = replicate 1024 (pos 0); wavetables = r .wavetables }) (setCoreVersion k version)
   unfolding setCoreVersion
   under-all n r e h =
       ap {B = Core} (λ (x : Core). record { channels = x .channels; fragments = replicate 1024 (pos 0); wavetables = x .wavetables }) e
-      ∙ ap {B = Core} (λ (x : List Channel). record { channels = x; fragments = replicate 1024 (pos 0); wavetables = k .wavetables }) (changed-all (λ (c : Channel). setVersion c version) n (k .channels) h)
+      ∙ ap {B = Core} (λ (x : List Channel). record { channels = x; fragments = replicate 1024 (pos 0); wavetables = k .wavetables }) (changed-all (λ (c : Channel). setChannelVersion c version) n (k .channels) h)
 
 -- ---- a wavetable
 module _ (k : Core) (ch : ℕ) where

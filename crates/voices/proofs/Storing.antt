@@ -9,11 +9,12 @@ use lib.IntN.{ℤ, pos}
 use lib.ListN.{length, take, drop, replicate, length-take, length-drop, length-set, length-replicate}
 use lib.Seq.{sets}
 use borrow.Rule.Slice.PartMut.{putMid}
+use Rattle.sizes.specs.Sizes.{fifoCapacity, numChannels, queueBuffer}
 use Rattle.num.specs.Lists.{part}
 use Rattle.num.proofs.Choice.{cond-by}
 use Rattle.version.specs.Versions.{has3ws8pna}
 use Rattle.version.specs.declared.SguVersion.{SguVersion}
-use Rattle.registers.specs.Queue.{capacity, place, pushedEntries}
+use Rattle.registers.specs.Queue.{place, pushedEntries}
 use Rattle.voice.specs.Channel.{defaultChannel}
 use Rattle.voice.specs.Kinds.{sampleOf}
 use Rattle.voice.specs.Writes.{sampleEntries, writeControlEntries}
@@ -26,7 +27,7 @@ use Rattle.voices.proofs.Parts.{put-part}
 use Rattle.voices.proofs.Chosen.{queues-in}
 
 -- zeros come back in the place of a voice's fragments
-pub cleared : (l ys : List ℤ) (ch : ℕ) → ch < 8 → length l ≡ 1024 → ys ≡ replicate (length (take (ch * 128 + 128 - ch * 128) (drop (ch * 128) l))) (pos 0)
+pub cleared : (l ys : List ℤ) (ch : ℕ) → ch < numChannels → length l ≡ 1024 → ys ≡ replicate (length (take (ch * 128 + 128 - ch * 128) (drop (ch * 128) l))) (pos 0)
     → putMid (ch * 128) (ch * 128 + 128 - ch * 128) l ys ≡ noFragments ch l
 unfolding noFragments
 cleared l ys ch h n e =
@@ -60,7 +61,7 @@ module _ (version : SguVersion) (c : Channel) (value : ℕ) where
   entries-length q offset =
       cond-by same (eqb offset 13) _ _
       (λ e. cond-by same (has3ws8pna version) _ _
-      (λ e. cond-by same (ltb (c .fifo .count) capacity) _ _ (λ e. length-set q (place (c .fifo)) (sampleOf (c .fifo .latch) value)) (λ e. refl))
+      (λ e. cond-by same (ltb (c .fifo .count) fifoCapacity) _ _ (λ e. length-set q (place (c .fifo)) (sampleOf (c .fifo .latch) value)) (λ e. refl))
       (λ e. refl))
       (λ e. refl)
     where
@@ -68,12 +69,12 @@ module _ (version : SguVersion) (c : Channel) (value : ℕ) where
       same l = length l ≡ length q
 
 module _ (version : SguVersion) (k : Core) (q ys : List ℤ) (ch offset value : ℕ) where
-  pub voice-queues : ch < 8 → length q ≡ 16384 → ys ≡ writeControlEntries version (channelAt k ch) (take (ch * 2048 + 2048 - ch * 2048) (drop (ch * 2048) q)) offset value
-      → putMid (ch * 2048) (ch * 2048 + 2048 - ch * 2048) q ys ≡ writeChannelControlQueues version k q ch offset value
+  pub voice-queues : ch < numChannels → length q ≡ queueBuffer → ys ≡ writeControlEntries version (channelAt k ch) (take (ch * fifoCapacity + fifoCapacity - ch * fifoCapacity) (drop (ch * fifoCapacity) q)) offset value
+      → putMid (ch * fifoCapacity) (ch * fifoCapacity + fifoCapacity - ch * fifoCapacity) q ys ≡ writeChannelControlQueues version k q ch offset value
   voice-queues h n e =
-      let r : ch * 2048 + 2048 ≤ length q = omega arith in
-      let w : ch * 2048 + 2048 - ch * 2048 ≡ 2048 = omega arith in
-      let z : ys ≡ writeControlEntries version (channelAt k ch) (part q (ch * 2048) 2048) offset value = e ∙ ap (λ (m : ℕ). writeControlEntries version (channelAt k ch) (take m (drop (ch * 2048) q)) offset value) w in
-      let m : length (part q (ch * 2048) 2048) ≡ 2048 = simp (length-take, length-drop) (omega arith) in
-      put-part q ys (ch * 2048) 2048 r (ap length z ∙ entries-length version (channelAt k ch) value (part q (ch * 2048) 2048) offset ∙ m)
-      ∙ ap (sets q (ch * 2048)) z ∙ queues-in k ch version offset value q h
+      let r : ch * fifoCapacity + fifoCapacity ≤ length q = omega arith in
+      let w : ch * fifoCapacity + fifoCapacity - ch * fifoCapacity ≡ fifoCapacity = omega arith in
+      let z : ys ≡ writeControlEntries version (channelAt k ch) (part q (ch * fifoCapacity) fifoCapacity) offset value = e ∙ ap (λ (m : ℕ). writeControlEntries version (channelAt k ch) (take m (drop (ch * fifoCapacity) q)) offset value) w in
+      let m : length (part q (ch * fifoCapacity) fifoCapacity) ≡ fifoCapacity = simp (length-take, length-drop) (omega arith) in
+      put-part q ys (ch * fifoCapacity) fifoCapacity r (ap length z ∙ entries-length version (channelAt k ch) value (part q (ch * fifoCapacity) fifoCapacity) offset ∙ m)
+      ∙ ap (sets q (ch * fifoCapacity)) z ∙ queues-in k ch version offset value q h

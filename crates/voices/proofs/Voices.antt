@@ -9,11 +9,12 @@ use lib.Dec.{eqb, leb, ltb}
 use lib.IntN.{ℤ, pos}
 use lib.ListN.{length, set, replicate, length-set, length-map, length-take, length-drop, length-replicate, getD-replicate}
 use lib.Seq.{length-sets, getD-set-same, getD-set-other}
+use Rattle.sizes.specs.Sizes.{fifoCapacity, numChannels, queueBuffer, registersEnd, wavetablesSize}
 use Rattle.num.specs.Lists.{part}
 use Rattle.num.proofs.Choice.{cond-by}
 use Rattle.version.specs.declared.SguVersion.{SguVersion}
 use Rattle.stream.specs.Cache.{emptied}
-use Rattle.voice.specs.Channel.{defaultChannel, setStream, setVersion}
+use Rattle.voice.specs.Channel.{defaultChannel, setStream, setChannelVersion}
 use Rattle.voice.specs.Reads.{streamsFrom, afterRead}
 use Rattle.voice.specs.Writes.{emptiesCache, writeControl, writeControlEntries, writePcmReg}
 use Rattle.voice.specs.declared.Channel.{Channel}
@@ -32,7 +33,7 @@ same-voice : {c d : Channel} {f g : List ℤ} {v w : List ℕ} → c ≡ d → f
 same-voice e h i = rw (e, h, i)
 
 -- ---- a voice's parts begun anew
-no-fragments-own : (l : List ℤ) (ch : ℕ) → length l ≡ 1024 → ch < 8 → part (noFragments ch l) (ch * 128) 128 ≡ replicate 128 (pos 0)
+no-fragments-own : (l : List ℤ) (ch : ℕ) → length l ≡ 1024 → ch < numChannels → part (noFragments ch l) (ch * 128) 128 ≡ replicate 128 (pos 0)
 unfolding noFragments
 no-fragments-own l ch n h = width-own 128 l (replicate 128 (pos 0)) ch (length-replicate 128 (pos 0)) (omega arith)
 
@@ -45,7 +46,7 @@ unfolding noFragments
 length-no-fragments l ch = length-sets l (ch * 128) (replicate 128 (pos 0))
 
 -- ---- one channel stored
-module _ (k : Core) (z : SizedCore k) (ch : ℕ) (h : ch < 8) where
+module _ (k : Core) (z : SizedCore k) (ch : ℕ) (h : ch < numChannels) where
   pub stored-changed : (c : Channel) (t : Bool) → Changed k (storedChannel k ch c t) ch (voiceStored (voiceAt k ch) c t)
   unfolding storedChannel
   stored-changed c t = record {
@@ -87,7 +88,7 @@ module _ (k : Core) (z : SizedCore k) (ch : ℕ) (h : ch < 8) where
   unfolding noWavetable
   reset-changed =
       let m = stored-changed defaultChannel true in
-      let n : length (k .wavetables) ≡ 2048 = z .wavetables in
+      let n : length (k .wavetables) ≡ wavetablesSize = z .wavetables in
       let l = k .wavetables in
       becomes voiceReset (reset-in k ch h) record {
         own = same-voice (ap (λ (v : Voice). v .channel) (m .own)) (ap (λ (v : Voice). v .fragments) (m .own)) (width-own 256 l (replicate 256 128) ch (length-replicate {A = ℕ} 256 128) (omega (arith, h, n)));
@@ -121,8 +122,8 @@ module _ (k : Core) (z : SizedCore k) where
   pub version-changed : (version : SguVersion) → ChangedAll k (setCoreVersion k version) (voiceUnder version)
   unfolding setCoreVersion
   version-changed version = record {
-    each = λ j h. same-voice (getD-changed (λ (c : Channel). setVersion c version) noChannel (k .channels) j (omega (arith, h, z .channels))) (part-replicate (pos 0) (j * 128) 128 1024 (omega (arith, h))) refl;
-    sized = record { channels = length-map (k .channels) (λ (c : Channel). setVersion c version) ∙ z .channels; fragments = length-replicate 1024 (pos 0); wavetables = z .wavetables };
+    each = λ j h. same-voice (getD-changed (λ (c : Channel). setChannelVersion c version) noChannel (k .channels) j (omega (arith, h, z .channels))) (part-replicate (pos 0) (j * 128) 128 1024 (omega (arith, h))) refl;
+    sized = record { channels = length-map (k .channels) (λ (c : Channel). setChannelVersion c version) ∙ z .channels; fragments = length-replicate 1024 (pos 0); wavetables = z .wavetables };
   }
 
   -- those that were looked at, and those that were not
@@ -159,27 +160,27 @@ module _ (k : Core) (z : SizedCore k) where
 module _ (version : SguVersion) (k : Core) (q : List ℤ) (ch offset value : ℕ) where
   pub length-queues : length (writeChannelControlQueues version k q ch offset value) ≡ length q
   unfolding writeChannelControlQueues
-  length-queues = cond-by (λ (l : List ℤ). length l ≡ length q) (ltb ch 8) _ _ (λ e. length-sets q (ch * 2048) (writeControlEntries version (channelAt k ch) (queueAt q ch) offset value)) (λ e. refl)
+  length-queues = cond-by (λ (l : List ℤ). length l ≡ length q) (ltb ch numChannels) _ _ (λ e. length-sets q (ch * fifoCapacity) (writeControlEntries version (channelAt k ch) (queueAt q ch) offset value)) (λ e. refl)
 
-  module _ (n : length q ≡ 16384) (h : ch < 8) where
-    long : length (writeControlEntries version (channelAt k ch) (queueAt q ch) offset value) ≡ 2048
+  module _ (n : length q ≡ queueBuffer) (h : ch < numChannels) where
+    long : length (writeControlEntries version (channelAt k ch) (queueAt q ch) offset value) ≡ fifoCapacity
     long = entries-length version (channelAt k ch) value (queueAt q ch) offset ∙ simp (length-take, length-drop) (omega arith)
 
     pub queue-own : queueAt (writeChannelControlQueues version k q ch offset value) ch ≡ writeControlEntries version (channelAt k ch) (queueAt q ch) offset value
     queue-own =
         ap (λ (l : List ℤ). queueAt l ch) (sym (queues-in k ch version offset value q h))
-        ∙ width-own 2048 q (writeControlEntries version (channelAt k ch) (queueAt q ch) offset value) ch long (omega arith)
+        ∙ width-own fifoCapacity q (writeControlEntries version (channelAt k ch) (queueAt q ch) offset value) ch long (omega arith)
 
     pub queue-others : (j : ℕ) → (j ≡ ch → ⊥) → queueAt (writeChannelControlQueues version k q ch offset value) j ≡ queueAt q j
     queue-others j d =
         ap (λ (l : List ℤ). queueAt l j) (sym (queues-in k ch version offset value q h))
-        ∙ width-other 2048 q (writeControlEntries version (channelAt k ch) (queueAt q ch) offset value) ch j long d
+        ∙ width-other fifoCapacity q (writeControlEntries version (channelAt k ch) (queueAt q ch) offset value) ch j long d
 
 pub length-register-queues : (version : SguVersion) (k : Core) (q : List ℤ) (address value : ℕ) → length (writeRegisterQueues version k q address value) ≡ length q
 unfolding writeRegisterQueues writeBlockQueues
 length-register-queues version k q address value =
-    cond-by same (ltb address 2048) _ _ (λ e. refl)
-    (λ e. cond-by same (ltb address 2304) _ _
+    cond-by same (ltb address wavetablesSize) _ _ (λ e. refl)
+    (λ e. cond-by same (ltb address registersEnd) _ _
     (λ e. cond-by same (isControl (offsetOf address)) _ _ (λ e. length-queues version k q (channelOf address) (offsetOf address) value) (λ e. refl))
     (λ e. refl))
   where
@@ -188,8 +189,8 @@ length-register-queues version k q address value =
 
 -- ---- a fresh core
 pub fresh-sized : SizedCore freshCore
-fresh-sized = record { channels = refl; fragments = length-replicate 1024 (pos 0); wavetables = length-replicate {A = ℕ} 2048 128 }
+fresh-sized = record { channels = refl; fragments = length-replicate 1024 (pos 0); wavetables = length-replicate {A = ℕ} wavetablesSize 128 }
 
-pub fresh-voice : (j : ℕ) → j < 8 → voiceAt freshCore j ≡ voiceReset
+pub fresh-voice : (j : ℕ) → j < numChannels → voiceAt freshCore j ≡ voiceReset
 fresh-voice j h =
-    same-voice (getD-replicate 8 j defaultChannel noChannel h) (part-replicate (pos 0) (j * 128) 128 1024 (omega (arith, h))) (part-replicate {A = ℕ} 128 (j * 256) 256 2048 (omega (arith, h)))
+    same-voice (getD-replicate numChannels j defaultChannel noChannel h) (part-replicate (pos 0) (j * 128) 128 1024 (omega (arith, h))) (part-replicate {A = ℕ} 128 (j * 256) 256 fifoCapacity (omega (arith, h)))

@@ -4,6 +4,7 @@ use mathlib.Core.Bool.{Bool, true, _&&_}
 use mathlib.Core.List.{List}
 use Prim.Native.Nat.{ℕ, zero, suc, _<_}
 use lib.ListN.{length, getD}
+use Rattle.sizes.specs.Sizes.{numChannels, wavetablesSize}
 use Rattle.version.specs.declared.SguVersion.{SguVersion}
 use Rattle.voice.specs.Accepted.{acceptsChannel, AcceptedChannel}
 use Rattle.voice.specs.declared.Channel.{Channel}
@@ -21,11 +22,11 @@ acceptsCore k version ram = acceptsFirst 8 (k .channels) version ram
 
 -- the tables as long as they are in the chip
 pub record SizedCore (k : Core) : Type 0 where
-  pub channels : length (k .channels) ≡ 8
+  pub channels : length (k .channels) ≡ numChannels
   pub fragments : length (k .fragments) ≡ 1024
-  pub wavetables : length (k .wavetables) ≡ 2048
+  pub wavetables : length (k .wavetables) ≡ wavetablesSize
 
 -- the same, channel by channel
 pub record AcceptedCore (k : Core) (version : SguVersion) (ram : ℕ) : Type 0 where
   pub sized : SizedCore k
-  pub each : (j : ℕ) → j < 8 → AcceptedChannel (channelAt k j) version ram
+  pub each : (j : ℕ) → j < numChannels → AcceptedChannel (channelAt k j) version ram

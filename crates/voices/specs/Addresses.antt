@@ -2,9 +2,10 @@
 use mathlib.Core.Bool.{Bool, true, cond}
 use Prim.Native.Nat.{ℕ, _/_, _%_}
 use lib.Dec.{eqb, ltb}
+use Rattle.sizes.specs.Sizes.{numChannels, registersEnd, wavetablesSize}
 
 abbrev pub channelOf : ℕ → ℕ
-channelOf address = address / 32 % 8
+channelOf address = address / 32 % numChannels
 
 abbrev pub offsetOf : ℕ → ℕ
 offsetOf address = address % 32
@@ -15,4 +16,4 @@ isControl offset = cond (ltb offset 16) true (eqb offset 26)
 
 -- a test of an address: in the wavetables, in the blocks, above
 abbrev pub byAddress : {A : Type 0} → ℕ → A → A → A → A
-byAddress address wavetable block above = cond (ltb address 2048) wavetable (cond (ltb address 2304) block above)
+byAddress address wavetable block above = cond (ltb address wavetablesSize) wavetable (cond (ltb address registersEnd) block above)

@@ -6,17 +6,18 @@ use lib.Dec.{ltb}
 use lib.IntN.{ℤ, pos}
 use lib.ListN.{set, getD, replicate}
 use lib.Seq.{sets}
+use Rattle.sizes.specs.Sizes.{numChannels, wavetablesSize}
 use Rattle.registers.specs.Queue.{defaultFifo}
 use Rattle.registers.specs.declared.WaveformType.the-variants.{Wavetable}
 use Rattle.registers.specs.declared.ModulationType.the-variants.{None}
 use Rattle.version.specs.declared.SguVersion.{SguVersion}
 use Rattle.stream.specs.Cache.{emptied}
-use Rattle.voice.specs.Channel.{defaultChannel, setVersion}
+use Rattle.voice.specs.Channel.{defaultChannel, setChannelVersion}
 use Rattle.voice.specs.declared.Channel.{Channel}
 use Rattle.voices.specs.declared.Core.{Core}
 
 abbrev pub freshCore : Core
-freshCore = record { channels = replicate 8 defaultChannel; fragments = replicate 1024 (pos 0); wavetables = replicate 2048 128 }
+freshCore = record { channels = replicate numChannels defaultChannel; fragments = replicate 1024 (pos 0); wavetables = replicate wavetablesSize 128 }
 
 -- what `getD` gives past the end of a list of channels
 abbrev pub noChannel : Channel
@@ -58,9 +59,9 @@ unfoldable pub storedChannel : Core → ℕ → Channel → Bool → Core
 storedChannel k ch c invalidated = setFragments (setChannel k ch c) (cond invalidated (noFragments ch (k .fragments)) (k .fragments))
 
 unfoldable pub resetChannelAt : Core → ℕ → Core
-resetChannelAt k ch = cond (ltb ch 8) (setWavetables (storedChannel k ch defaultChannel true) (noWavetable ch (k .wavetables))) k
+resetChannelAt k ch = cond (ltb ch numChannels) (setWavetables (storedChannel k ch defaultChannel true) (noWavetable ch (k .wavetables))) k
 
 -- ---- every voice
 unfoldable pub setCoreVersion : Core → SguVersion → Core
 setCoreVersion k version =
-    record { channels = map (λ (c : Channel). setVersion c version) (k .channels); fragments = replicate 1024 (pos 0); wavetables = k .wavetables }
+    record { channels = map (λ (c : Channel). setChannelVersion c version) (k .channels); fragments = replicate 1024 (pos 0); wavetables = k .wavetables }

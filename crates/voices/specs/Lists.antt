@@ -24,15 +24,15 @@ unfoldable pub blockEmpties : ℕ → Bool
 blockEmpties offset = cond (isControl offset) (emptiesCache offset) (leb (offset - 16) 9)
 
 -- ---- eight voices and the queue buffer that is lent to them
-pub record Written : Type 0 where
+pub record FedCore : Type 0 where
   pub core : Core
   pub queues : List ℤ
 
-abbrev pub written : Core → List ℤ → Written
-written k q = record { core = k; queues = q }
+abbrev pub fedCore : Core → List ℤ → FedCore
+fedCore k q = record { core = k; queues = q }
 
 -- the first n registers of a list of addresses and values
-unfoldable pub registersWritten : SguVersion → ℕ → List ℕ → List ℕ → Written → Written
+unfoldable pub registersWritten : SguVersion → ℕ → List ℕ → List ℕ → FedCore → FedCore
 registersWritten version zero addresses values s = s
 registersWritten version (suc n) addresses values s =
     let b = registersWritten version n addresses values s in

@@ -5,10 +5,11 @@ use Prim.Native.Nat.{ℕ, _*_, _<_}
 use mathlib.Core.Path.{_≡_}
 use lib.IntN.{ℤ, pos}
 use lib.ListN.{set, replicate}
+use Rattle.sizes.specs.Sizes.{fifoCapacity, numChannels}
 use Rattle.num.specs.Lists.{part}
 use Rattle.version.specs.declared.SguVersion.{SguVersion}
 use Rattle.stream.specs.Cache.{emptied}
-use Rattle.voice.specs.Channel.{defaultChannel, setStream, setVersion}
+use Rattle.voice.specs.Channel.{defaultChannel, setStream, setChannelVersion}
 use Rattle.voice.specs.Reads.{streamsFrom}
 use Rattle.voice.specs.declared.Channel.{Channel}
 use Rattle.voices.specs.Core.{channelAt}
@@ -28,7 +29,7 @@ voiceAt k j = voice (channelAt k j) (part (k .fragments) (j * 128) 128) (part (k
 
 -- its own entries of the queue buffer
 abbrev pub queueAt : List ℤ → ℕ → List ℤ
-queueAt q j = part q (j * 2048) 2048
+queueAt q j = part q (j * fifoCapacity) fifoCapacity
 
 -- ---- a voice changed
 abbrev pub voiceStored : Voice → Channel → Bool → Voice
@@ -38,7 +39,7 @@ abbrev pub voiceReset : Voice
 voiceReset = voice defaultChannel (replicate 128 (pos 0)) (replicate 256 128)
 
 abbrev pub voiceUnder : SguVersion → Voice → Voice
-voiceUnder version v = voiceStored v (setVersion (v .channel) version) true
+voiceUnder version v = voiceStored v (setChannelVersion (v .channel) version) true
 
 abbrev pub voiceAfterRamWrite : ℕ → Voice → Voice
 voiceAfterRamWrite address v = cond (streamsFrom (v .channel) address) (voiceStored v (setStream (v .channel) emptied) true) v
@@ -54,5 +55,5 @@ pub record Changed (k r : Core) (ch : ℕ) (v : Voice) : Type 0 where
   pub sized : SizedCore r
 
 pub record ChangedAll (k r : Core) (f : Voice → Voice) : Type 0 where
-  pub each : (j : ℕ) → j < 8 → voiceAt r j ≡ f (voiceAt k j)
+  pub each : (j : ℕ) → j < numChannels → voiceAt r j ≡ f (voiceAt k j)
   pub sized : SizedCore r

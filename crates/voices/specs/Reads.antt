@@ -3,6 +3,7 @@ use mathlib.Core.Bool.{Bool, false, cond}
 use Prim.Native.Nat.{ℕ, _+_}
 use lib.Dec.{eqb, ltb}
 use lib.ListN.{getD}
+use Rattle.sizes.specs.Sizes.{numChannels}
 use Rattle.version.specs.Versions.{has3ws8pna, hasSampleControl, interpolates, wavetableMaskOf}
 use Rattle.version.specs.declared.SguVersion.{SguVersion}
 use Rattle.registers.specs.Pcm.{readPcm}
@@ -14,14 +15,14 @@ use Rattle.voices.specs.declared.Core.{Core}
 -- ---- one voice
 
 unfoldable pub readChannelControl : SguVersion → Core → ℕ → ℕ → ℕ
-readChannelControl version k ch offset = cond (ltb ch 8) (readControl version (channelAt k ch) offset) 0
+readChannelControl version k ch offset = cond (ltb ch numChannels) (readControl version (channelAt k ch) offset) 0
 
 unfoldable pub readChannelPcmReg : Core → ℕ → ℕ → ℕ
-readChannelPcmReg k ch offset = cond (ltb ch 8) (readPcm (channelAt k ch .pcm) offset) 0
+readChannelPcmReg k ch offset = cond (ltb ch numChannels) (readPcm (channelAt k ch .pcm) offset) 0
 
 -- what a read at an offset makes of the core
 unfoldable pub afterReadChannel : Core → ℕ → ℕ → Core
-afterReadChannel k ch offset = cond (ltb ch 8) (storedChannel k ch (afterRead (channelAt k ch) offset) (eqb offset 10)) k
+afterReadChannel k ch offset = cond (ltb ch numChannels) (storedChannel k ch (afterRead (channelAt k ch) offset) (eqb offset 10)) k
 
 -- ---- the wavetables: 0 past the last
 abbrev pub readWavetable : Core → ℕ → ℕ
@@ -40,8 +41,8 @@ afterReadRegister k address =
 
 unfoldable pub wavetableLength : SguVersion → Core → ℕ → ℕ
 wavetableLength version k ch =
-    cond (ltb ch 8) (wavetableMaskOf version (channelAt k ch .pcm .«sample_control») + 1) (cond (hasSampleControl version) 0 256)
+    cond (ltb ch numChannels) (wavetableMaskOf version (channelAt k ch .pcm .«sample_control») + 1) (cond (hasSampleControl version) 0 256)
 
 unfoldable pub interpolatesAt : SguVersion → Core → ℕ → Bool
 interpolatesAt version k ch =
-    cond (ltb ch 8) (interpolates version (channelAt k ch .pcm .«sample_control»)) (cond (hasSampleControl version) false (has3ws8pna version))
+    cond (ltb ch numChannels) (interpolates version (channelAt k ch .pcm .«sample_control»)) (cond (hasSampleControl version) false (has3ws8pna version))

@@ -6,6 +6,7 @@ use lib.Dec.{eqb, leb, ltb}
 use lib.IntN.{ℤ}
 use lib.ListN.{length, set}
 use lib.Seq.{sets}
+use Rattle.sizes.specs.Sizes.{fifoCapacity, numChannels, queueBuffer}
 use Rattle.num.specs.Lists.{part}
 use Rattle.version.specs.declared.SguVersion.{SguVersion}
 use Rattle.stream.specs.Cache.{emptied}
@@ -18,21 +19,21 @@ use Rattle.voices.specs.declared.Core.{Core}
 
 -- what a call makes that is lent a queue buffer of 16,384 entries; one of another length changes nothing
 abbrev pub withQueues : {A : Type 0} → List ℤ → A → A → A
-withQueues q after before = cond (eqb (length q) 16384) after before
+withQueues q after before = cond (eqb (length q) queueBuffer) after before
 
 -- ---- one voice
 
 unfoldable pub writeChannelControl : SguVersion → Core → ℕ → ℕ → ℕ → Core
 writeChannelControl version k ch offset value =
-    cond (ltb ch 8) (storedChannel k ch (writeControl version (channelAt k ch) offset value) (emptiesCache offset)) k
+    cond (ltb ch numChannels) (storedChannel k ch (writeControl version (channelAt k ch) offset value) (emptiesCache offset)) k
 
 -- only the voice's own 2,048 entries can change
 unfoldable pub writeChannelControlQueues : SguVersion → Core → List ℤ → ℕ → ℕ → ℕ → List ℤ
 writeChannelControlQueues version k q ch offset value =
-    cond (ltb ch 8) (sets q (ch * 2048) (writeControlEntries version (channelAt k ch) (part q (ch * 2048) 2048) offset value)) q
+    cond (ltb ch numChannels) (sets q (ch * fifoCapacity) (writeControlEntries version (channelAt k ch) (part q (ch * fifoCapacity) fifoCapacity) offset value)) q
 
 unfoldable pub writeChannelPcmReg : Core → ℕ → ℕ → ℕ → Core
-writeChannelPcmReg k ch offset value = cond (ltb ch 8) (storedChannel k ch (writePcmReg (channelAt k ch) offset value) (leb offset 9)) k
+writeChannelPcmReg k ch offset value = cond (ltb ch numChannels) (storedChannel k ch (writePcmReg (channelAt k ch) offset value) (leb offset 9)) k
 
 -- ---- the wavetables: an index past the last changes nothing
 unfoldable pub writeWavetable : Core → ℕ → ℕ → Core

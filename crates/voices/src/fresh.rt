@@ -1,8 +1,11 @@
 // Fresh voices, one voice reset, all of them under another version.
 ghost use mathlib.Core.Path.{_≡_};
 ghost use Prim.Native.Nat.{_<_};
+ghost use Rattle.sizes.specs.Sizes.{numChannels};
 ghost use Rattle.voices.specs.Core.{freshCore, setWavetables, noWavetable, resetChannelAt, setCoreVersion};
 use crate::Core;
+use sizes::NUM_CHANNELS;
+use sizes::WAVETABLES_SIZE;
 use version::SguVersion;
 use voice::Channel;
 
@@ -14,12 +17,12 @@ impl Core {
         Core {
             channels: [c; 8],
             fragments: [0i16; 1024],
-            wavetables: [0x80u8; 2048],
+            wavetables: [0x80u8; WAVETABLES_SIZE],
         }
     }
 
     fn reset_wavetable(self, ch: usize) -> Core
-        requires { ⌜ ch < 8 ⌝ }
+        requires { ⌜ ch < numChannels ⌝ }
         ensures { λ r. ⌜ r ≡ setWavetables self (noWavetable ch (self .wavetables)) ⌝ }
     {
         let mut core = self;
@@ -33,7 +36,7 @@ impl Core {
     pub fn reset_channel(self, ch: usize) -> Core
         ensures { λ r. ⌜ r ≡ resetChannelAt self ch ⌝ }
     {
-        if ch < 8 {
+        if ch < NUM_CHANNELS {
             return self.stored(ch, Channel::default(), true)
                 .reset_wavetable(ch);
         }

@@ -7,6 +7,7 @@ mod reads;
 mod stored;
 mod writes;
 
+use sizes::WAVETABLES_SIZE;
 use voice::Channel;
 
 // A voice's decoded fragments are the 128 samples from 128 times the channel on, its wavetable the 256 bytes from 256 times
@@ -14,5 +15,5 @@ use voice::Channel;
 pub struct Core {
     pub channels: [Channel; 8],
     pub fragments: [i16; 1024],
-    pub wavetables: [u8; 2048],
+    pub wavetables: [u8; WAVETABLES_SIZE],
 }

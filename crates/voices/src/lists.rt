@@ -2,12 +2,15 @@
 ghost use mathlib.Core.Path.{_≡_};
 ghost use Prim.Native.Nat.{min};
 ghost use lib.ListN.{length};
+ghost use Rattle.sizes.specs.Sizes.{queueBuffer};
 ghost use Rattle.voices.specs.Writes.{withQueues};
-ghost use Rattle.voices.specs.Lists.{blockChannel, blockEntries, blockEmpties, written, registersWritten, afterRamWrites};
+ghost use Rattle.voices.specs.Lists.{blockChannel, blockEntries, blockEmpties, fedCore, registersWritten, afterRamWrites};
 use crate::Core;
 use crate::addresses::channel_of;
 use crate::addresses::offset_of;
 use crate::stored::clear_fragments;
+use sizes::FIFO_CAPACITY;
+use sizes::QUEUE_BUFFER;
 use version::SguVersion;
 use voice::Channel;
 
@@ -51,9 +54,9 @@ impl Core {
         addresses: &[u32],
         values: &[u8],
     ) -> Core
-        requires { ⌜ length (now queues) ≡ 16384 ⌝ }
-        ensures { λ r. ⌜ r ≡ registersWritten version (min (length (now (addresses .entry))) (length (now (values .entry)))) (now (addresses .entry)) (now (values .entry)) (written self (now (queues .entry))) .core ⌝ }
-        ensures { λ _. ⌜ now (queues .exit) ≡ registersWritten version (min (length (now (addresses .entry))) (length (now (values .entry)))) (now (addresses .entry)) (now (values .entry)) (written self (now (queues .entry))) .queues ⌝ }
+        requires { ⌜ length (now queues) ≡ queueBuffer ⌝ }
+        ensures { λ r. ⌜ r ≡ registersWritten version (min (length (now (addresses .entry))) (length (now (values .entry)))) (now (addresses .entry)) (now (values .entry)) (fedCore self (now (queues .entry))) .core ⌝ }
+        ensures { λ _. ⌜ now (queues .exit) ≡ registersWritten version (min (length (now (addresses .entry))) (length (now (values .entry)))) (now (addresses .entry)) (now (values .entry)) (fedCore self (now (queues .entry))) .queues ⌝ }
     {
         let mut core = self;
         for i in 0..num::least(addresses.len(), values.len()) {
@@ -64,8 +67,8 @@ impl Core {
             } else if address < 0x900 {
                 let ch = channel_of(address);
                 let offset = offset_of(address);
-                let from = ch * 2048;
-                let to = from + 2048;
+                let from = ch * FIFO_CAPACITY;
+                let to = from + FIFO_CAPACITY;
                 let c = core.channels[ch];
                 let d = write_at(c, version, &mut queues[from..to], offset, value);
                 core.channels[ch] = d;
@@ -85,10 +88,10 @@ impl Core {
         addresses: &[u32],
         values: &[u8],
     ) -> Core
-        ensures { λ r. ⌜ r ≡ withQueues (now (queues .entry)) (registersWritten version (min (length (now (addresses .entry))) (length (now (values .entry)))) (now (addresses .entry)) (now (values .entry)) (written self (now (queues .entry))) .core) self ⌝ }
-        ensures { λ _. ⌜ now (queues .exit) ≡ withQueues (now (queues .entry)) (registersWritten version (min (length (now (addresses .entry))) (length (now (values .entry)))) (now (addresses .entry)) (now (values .entry)) (written self (now (queues .entry))) .queues) (now (queues .entry)) ⌝ }
+        ensures { λ r. ⌜ r ≡ withQueues (now (queues .entry)) (registersWritten version (min (length (now (addresses .entry))) (length (now (values .entry)))) (now (addresses .entry)) (now (values .entry)) (fedCore self (now (queues .entry))) .core) self ⌝ }
+        ensures { λ _. ⌜ now (queues .exit) ≡ withQueues (now (queues .entry)) (registersWritten version (min (length (now (addresses .entry))) (length (now (values .entry)))) (now (addresses .entry)) (now (values .entry)) (fedCore self (now (queues .entry))) .queues) (now (queues .entry)) ⌝ }
     {
-        if queues.len() != 16384 {
+        if queues.len() != QUEUE_BUFFER {
             return self;
         }
         self.write_each(version, queues, addresses, values)

@@ -4,6 +4,8 @@ ghost use Rattle.voices.specs.Reads.{readChannelControl, readChannelPcmR
 use crate::Core;
 use crate::addresses::channel_of;
 use crate::addresses::offset_of;
+use sizes::NUM_CHANNELS;
+use sizes::WAVETABLES_SIZE;
 use version::SguVersion;
 
 impl Core {
@@ -11,7 +13,7 @@ impl Core {
     pub fn read_control(self, version: SguVersion, ch: usize, offset: u8) -> u8
         ensures { λ r. ⌜ r ≡ readChannelControl version self ch offset ⌝ }
     {
-        if ch < 8 {
+        if ch < NUM_CHANNELS {
             let c = self.channels[ch];
             return c.read_control(version, offset);
         }
@@ -21,7 +23,7 @@ impl Core {
     pub fn read_pcm_reg(self, ch: usize, offset: u8) -> u8
         ensures { λ r. ⌜ r ≡ readChannelPcmReg self ch offset ⌝ }
     {
-        if ch < 8 {
+        if ch < NUM_CHANNELS {
             let c = self.channels[ch];
             let p = c.pcm;
             return p.read(offset);
@@ -32,7 +34,7 @@ impl Core {
     pub fn read_wavetable(self, at: usize) -> u8
         ensures { λ r. ⌜ r ≡ readWavetable self at ⌝ }
     {
-        if at < 2048 {
+        if at < WAVETABLES_SIZE {
             return self.wavetables[at];
         }
         0
@@ -41,7 +43,7 @@ impl Core {
     pub fn after_read(self, ch: usize, offset: u8) -> Core
         ensures { λ r. ⌜ r ≡ afterReadChannel self ch offset ⌝ }
     {
-        if ch < 8 {
+        if ch < NUM_CHANNELS {
             let c = self.channels[ch];
             let d = c.after_read(offset);
             return self.stored(ch, d, offset == 0x0A);
@@ -81,7 +83,7 @@ impl Core {
     pub fn wavetable_length(self, version: SguVersion, ch: usize) -> usize
         ensures { λ r. ⌜ r ≡ wavetableLength version self ch ⌝ }
     {
-        if ch < 8 {
+        if ch < NUM_CHANNELS {
             let c = self.channels[ch];
             let p = c.pcm;
             return (version.wavetable_mask(p.sample_control) as usize) + 1;
@@ -95,7 +97,7 @@ impl Core {
     pub fn interpolates(self, version: SguVersion, ch: usize) -> bool
         ensures { λ r. ⌜ r ≡ interpolatesAt version self ch ⌝ }
     {
-        if ch < 8 {
+        if ch < NUM_CHANNELS {
             let c = self.channels[ch];
             let p = c.pcm;
             return version.interpolates(p.sample_control);

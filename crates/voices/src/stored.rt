@@ -2,12 +2,13 @@
 ghost use mathlib.Core.Path.{_≡_};
 ghost use Prim.Native.Nat.{_<_};
 ghost use lib.ListN.{length};
+ghost use Rattle.sizes.specs.Sizes.{numChannels};
 ghost use Rattle.voices.specs.Core.{noFragments, storedChannel};
 use crate::Core;
 use voice::Channel;
 
 fn clear_part(samples: &mut [i16], ch: usize)
-    requires { ⌜ (ch < 8) × (length (now samples) ≡ 1024) ⌝ }
+    requires { ⌜ (ch < numChannels) × (length (now samples) ≡ 1024) ⌝ }
     ensures { λ _. ⌜ now (samples .exit) ≡ noFragments ch (now (samples .entry)) ⌝ }
 {
     let from = ch * 128;
@@ -16,7 +17,7 @@ fn clear_part(samples: &mut [i16], ch: usize)
 }
 
 pub(crate) fn clear_fragments(samples: &mut [i16; 1024], ch: usize)
-    requires { ⌜ ch < 8 ⌝ }
+    requires { ⌜ ch < numChannels ⌝ }
     ensures { λ _. ⌜ now (samples .exit) ≡ noFragments ch (now (samples .entry)) ⌝ }
 {
     clear_part(samples, ch);
@@ -25,7 +26,7 @@ pub(crate) fn clear_fragments(samples: &mut [i16; 1024], ch: usize)
 impl Core {
     // Where the channel's cache was emptied, its fragments are too.
     pub(crate) fn stored(mut self, ch: usize, c: Channel, invalidated: bool) -> Core
-        requires { ⌜ ch < 8 ⌝ }
+        requires { ⌜ ch < numChannels ⌝ }
         ensures { λ r. ⌜ r ≡ storedChannel self ch c invalidated ⌝ }
     {
         self.channels[ch] = c;

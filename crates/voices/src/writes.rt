@@ -2,12 +2,17 @@
 ghost use mathlib.Core.Path.{_≡_};
 ghost use Prim.Native.Nat.{_<_};
 ghost use lib.ListN.{length};
+ghost use Rattle.sizes.specs.Sizes.{numChannels, queueBuffer};
 ghost use Rattle.voices.specs.Writes.{withQueues, writeChannelControl, writeChannelControlQueues, writeChannelPcmReg, writeWavetable, writeBlock, writeBlockQueues, writeRegister, writeRegisterQueues, afterRamWrite};
 use crate::Core;
 use crate::addresses::channel_of;
 use crate::addresses::offset_of;
 use crate::lists::empties;
 use crate::lists::write_at;
+use sizes::FIFO_CAPACITY;
+use sizes::NUM_CHANNELS;
+use sizes::QUEUE_BUFFER;
+use sizes::WAVETABLES_SIZE;
 use version::SguVersion;
 use voice::Channel;
 
@@ -21,12 +26,12 @@ impl Core {
         offset: u8,
         value: u8,
     ) -> Core
-        requires { ⌜ (ch < 8) × (length (now queues) ≡ 16384) ⌝ }
+        requires { ⌜ (ch < numChannels) × (length (now queues) ≡ queueBuffer) ⌝ }
         ensures { λ r. ⌜ (r ≡ writeChannelControl version self ch offset value) × (now (queues .exit) ≡ writeChannelControlQueues version self (now (queues .entry)) ch offset value) ⌝ }
     {
         let c = self.channels[ch];
-        let from = ch * 2048;
-        let to = from + 2048;
+        let from = ch * FIFO_CAPACITY;
+        let to = from + FIFO_CAPACITY;
         let d = c.write_control(version, &mut queues[from..to], offset, value);
         self.stored(ch, d, Channel::control_write_invalidates(offset))
     }
@@ -42,10 +47,10 @@ impl Core {
         ensures { λ r. ⌜ r ≡ withQueues (now (queues .entry)) (writeChannelControl version self ch offset value) self ⌝ }
         ensures { λ _. ⌜ now (queues .exit) ≡ withQueues (now (queues .entry)) (writeChannelControlQueues version self (now (queues .entry)) ch offset value) (now (queues .entry)) ⌝ }
     {
-        if queues.len() != 16384 {
+        if queues.len() != QUEUE_BUFFER {
             return self;
         }
-        if ch < 8 {
+        if ch < NUM_CHANNELS {
             return self.write_voice(version, queues, ch, offset, value);
         }
         self
@@ -54,7 +59,7 @@ impl Core {
     pub fn write_pcm_reg(self, ch: usize, offset: u8, value: u8) -> Core
         ensures { λ r. ⌜ r ≡ writeChannelPcmReg self ch offset value ⌝ }
     {
-        if ch < 8 {
+        if ch < NUM_CHANNELS {
             let c = self.channels[ch];
             let d = c.write_pcm_reg(offset, value);
             return self.stored(ch, d, Channel::pcm_write_invalidates(offset));
@@ -65,7 +70,7 @@ impl Core {
     pub fn write_wavetable(mut self, at: usize, value: u8) -> Core
         ensures { λ r. ⌜ r ≡ writeWavetable self at value ⌝ }
     {
-        if at < 2048 {
+        if at < WAVETABLES_SIZE {
             self.wavetables[at] = value;
         }
         self
@@ -79,12 +84,12 @@ impl Core {
         offset: u8,
         value: u8,
     ) -> Core
-        requires { ⌜ (ch < 8) × (length (now queues) ≡ 16384) ⌝ }
+        requires { ⌜ (ch < numChannels) × (length (now queues) ≡ queueBuffer) ⌝ }
         ensures { λ r. ⌜ (r ≡ writeBlock version self ch offset value) × (now (queues .exit) ≡ writeBlockQueues version self (now (queues .entry)) ch offset value) ⌝ }
     {
         let c = self.channels[ch];
-        let from = ch * 2048;
-        let to = from + 2048;
+        let from = ch * FIFO_CAPACITY;
+        let to = from + FIFO_CAPACITY;
         let d = write_at(c, version, &mut queues[from..to], offset, value);
         self.stored(ch, d, empties(offset))
     }
@@ -100,7 +105,7 @@ impl Core {
         ensures { λ r. ⌜ r ≡ withQueues (now (queues .entry)) (writeRegister version self address value) self ⌝ }
         ensures { λ _. ⌜ now (queues .exit) ≡ withQueues (now (queues .entry)) (writeRegisterQueues version self (now (queues .entry)) address value) (now (queues .entry)) ⌝ }
     {
-        if queues.len() != 16384 {
+        if queues.len() != QUEUE_BUFFER {
             return self;
         }
         if address < 0x800 {

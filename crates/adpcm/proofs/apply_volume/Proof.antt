@@ -1,7 +1,7 @@
 use borrow.Author.Needs.{needs, sfits-of}
 use mir.Val.{SFits}
 use Rattle.num.specs.Integers.{signed}
-use Rattle.adpcm.specs.Codes.{volumeOf}
+use Rattle.adpcm.specs.Codes.{appliedVolume}
 use Rattle.adpcm.proofs.Volume.{volume-fits}
 use native.Mathlib.Omega.{arith}
 use native.Mathlib.Nat.{mul-le-mul}
@@ -41,7 +41,7 @@ cast-with-sign c = omega (arith, product c)
 with-sign-requires : tie.Need-with-sign-requires
 with-sign-requires c κs = search needs
 
-is : (c : tie.After-with-sign) → c .with-sign .result ≡ volumeOf (c .before .before .args .reconstructed) (c .before .before .args .volume)
+is : (c : tie.After-with-sign) → c .with-sign .result ≡ appliedVolume (c .before .before .args .reconstructed) (c .before .before .args .volume)
 is c = rw (sized (c .before), back w16 _ (c .before .before .fits .reconstructed)) at (c .with-sign .ensures .0)
 
 fits : (c : tie.After-with-sign) → SFits w16 (c .with-sign .result)

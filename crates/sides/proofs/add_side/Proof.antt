@@ -6,14 +6,14 @@ use lib.IntN.{pos}
 use lib.ListN.{length, getD, length-set}
 use mir.Syntax.{w16}
 use mir.Val.{toZ, ofZ}
-use Rattle.sides.specs.Sides.{saturating, addedTo, Room}
+use Rattle.sides.specs.Sides.{saturating, addedTo, StemRoom}
 use Rattle.sides.proofs.Added.{added-next, saturating-is}
 use Rattle.sides.proofs.add_side.Statement.{statement}
 use Rattle.sides.proofs.add_side.Tie as tie
 
 abbrev Inv-loop : tie.InvT-loop
 Inv-loop stems hand side₀ first count i₀ side i =
-    (i ≤ count) × (side ≡ addedTo saturating i stems hand first side₀) × (length side ≡ length side₀) × Room count hand first (length stems) (length side₀)
+    (i ≤ count) × (side ≡ addedTo saturating i stems hand first side₀) × (length side ≡ length side₀) × StemRoom count hand first (length stems) (length side₀)
 
 abbrev μ-loop : tie.MeasureT-loop
 μ-loop stems hand side₀ first count i₀ side i = count - i

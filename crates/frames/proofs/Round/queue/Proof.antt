@@ -2,6 +2,7 @@ use borrow.Author.Needs.{needs}
 use mathlib.Core.Path.{refl, sym, subst}
 use Prim.Native.Nat.{_*_}
 use native.Mathlib.Omega.{arith}
+use Rattle.sizes.specs.Sizes.{fifoCapacity}
 use Rattle.registers.specs.Queue.{FitFifo}
 use Rattle.ticks.specs.Mix.{Room}
 use Rattle.ticks.specs.declared.QueueSound.{QueueSound}
@@ -40,7 +41,7 @@ returns : tie.Need-returns
 returns c =
     let b = c .before .before .before in
     let a = b .args in
-    let e = queue-is (a .n) (a .c .registers .frequency) (a .c .registers .panpot) (a .ch * 2048) _ (a .queues .now) _ _ _ refl (c .before .before .queue-sound .ensures) (c .run .ensures .0) in (
+    let e = queue-is (a .n) (a .c .registers .frequency) (a .c .registers .panpot) (a .ch * fifoCapacity) _ (a .queues .now) _ _ _ refl (c .before .before .queue-sound .ensures) (c .run .ensures .0) in (
       e,
       λ ram accepted.
           let g = c .run .ok .1 .1 in

@@ -2,20 +2,20 @@ use borrow.Author.Needs.{needs}
 use mathlib.Core.Path.{_≡_, refl, sym, ap, _∙_}
 use Prim.Native.Nat.{ℕ}
 use borrow.Author.Tests.{eq-eqb, ne-eqb}
-use Rattle.log.specs.Lines.{written, writtenRam, readOf, peekOf, clockOf, versionOf, byKind, lineOf}
+use Rattle.log.specs.Lines.{asWrite, writtenRam, readOf, peekOf, clockOf, asVersion, byKind, parsedLine}
 use Rattle.log.proofs.parsing.parse.Statement.{statement}
 use Rattle.log.proofs.parsing.parse.Tie as tie
 
 -- a line of a kind
-named : (c : tie.After-byte-at2) (k : ℕ) → c .byte-at2 .result ≡ k → lineOf (c .before .before .before .before .args .text .now) ≡ byKind (c .before .before .before .before .args .text .now) k
-unfolding lineOf
+named : (c : tie.After-byte-at2) (k : ℕ) → c .byte-at2 .result ≡ k → parsedLine (c .before .before .before .before .args .text .now) ≡ byKind (c .before .before .before .before .args .text .now) k
+unfolding parsedLine
 named c k e = rw (eq-eqb _ 44 (sym (c .before .before .byte-at .ensures) ∙ c .before .if1 .left)) (ap (byKind (c .before .before .before .before .args .text .now)) (sym (c .byte-at2 .ensures) ∙ e))
 
 byte-at-requires : tie.Need-byte-at-requires
 byte-at-requires c κs = search needs
 
 returns : tie.Need-returns
-unfolding lineOf
+unfolding parsedLine
 returns c = rw (ne-eqb _ 44 (λ q. c .if1 .taken (c .before .byte-at .ensures ∙ q)))
 
 byte-at-requires-2 : tie.Need-byte-at-requires-2
@@ -58,7 +58,7 @@ version-of-requires : tie.Need-version-of-requires
 version-of-requires c κs = search needs
 
 returns-2 : tie.Need-returns-2
-returns-2 c = c .write-of .ensures ∙ ap written (c .before .two-numbers .ensures) ∙ sym (named (c .before .before .before) 87 (c .before .before .match .keys1))
+returns-2 c = c .write-of .ensures ∙ ap asWrite (c .before .two-numbers .ensures) ∙ sym (named (c .before .before .before) 87 (c .before .before .match .keys1))
 
 returns-3 : tie.Need-returns-3
 returns-3 c = c .write-ram-of .ensures ∙ ap writtenRam (c .before .two-numbers2 .ensures) ∙ sym (named (c .before .before .before) 77 (c .before .before .match .keys2))
@@ -73,7 +73,7 @@ returns-6 : tie.Need-returns-6
 returns-6 c = c .clock-of .ensures ∙ ap clockOf (c .before .one-number3 .ensures .0) ∙ sym (named (c .before .before .before) 67 (c .before .before .match .keys5))
 
 returns-7 : tie.Need-returns-7
-returns-7 c = c .version-of .ensures ∙ ap versionOf (c .before .one-number4 .ensures .0) ∙ sym (named (c .before .before .before) 86 (c .before .before .match .keys6))
+returns-7 c = c .version-of .ensures ∙ ap asVersion (c .before .one-number4 .ensures .0) ∙ sym (named (c .before .before .before) 86 (c .before .before .match .keys6))
 
 returns-8 : tie.Need-returns-8
 returns-8 c = sym (named (c .before) _ refl ∙ simp (ne-eqb _ 87 (c .match .rest .0 .0 .0 .0 .0 .1), ne-eqb _ 77 (c .match .rest .0 .0 .0 .0 .1), ne-eqb _ 82 (c .match .rest .0 .0 .0 .1), ne-eqb _ 80 (c .match .rest .0 .0 .1), ne-eqb _ 67 (c .match .rest .0 .1), ne-eqb _ 86 (c .match .rest .1)))

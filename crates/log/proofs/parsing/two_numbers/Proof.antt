@@ -4,7 +4,7 @@ use mathlib.Core.Path.{_≡_, sym, ap, _∙_}
 use Prim.Native.Nat.{_+_, _≤_}
 use borrow.Author.Tests.{eq-eqb, ne-eqb, le-leb, lt-leb}
 use Rattle.decimal.specs.declared.TakenNatural.the-variants.{Natural}
-use Rattle.log.specs.Lines.{oneAt, withByte, twoOf, twoAt}
+use Rattle.log.specs.Lines.{oneAt, addressAnd, twoOf, twoAt}
 use Rattle.log.proofs.Commas.{comma-inside}
 use Rattle.log.proofs.parsing.two_numbers.Statement.{statement}
 use Rattle.log.proofs.parsing.two_numbers.Tie as tie
@@ -14,7 +14,7 @@ unfolding twoAt
 found c = ap (twoOf (c .before .before .before .before .args .text .now)) (sym (c .before .before .take-natural .ensures) ∙ c .taken .given .1)
 
 -- past the address and the comma
-parted : (c : tie.Else2) → twoAt (c .before .before .before .before .before .before .before .before .args .text .now) (c .before .before .before .before .before .before .before .before .args .at) ≡ withByte (c .before .before .before .before .taken .given .0 .0) (oneAt (c .before .before .before .before .before .before .before .before .args .text .now) (c .before .before .before .before .taken .given .0 .1 .0 + 1) 255)
+parted : (c : tie.Else2) → twoAt (c .before .before .before .before .before .before .before .before .args .text .now) (c .before .before .before .before .before .before .before .before .args .at) ≡ addressAnd (c .before .before .before .before .taken .given .0 .0) (oneAt (c .before .before .before .before .before .before .before .before .args .text .now) (c .before .before .before .before .taken .given .0 .1 .0 + 1) 255)
 parted c = found (c .before .before .before .before) ∙ rw (le-leb _ 4294967295 (c .before .before .if1 .left), eq-eqb _ 44 (sym (c .before .byte-at .ensures) ∙ c .if2 .left))
 
 byte : (c : tie.After-known-told2) → c .before .second .given .0 .0 ≤ 255
@@ -55,7 +55,7 @@ enum-told-2 : tie.Need-enum-told-2
 enum-told-2 c = search needs
 
 returns-4 : tie.Need-returns-4
-returns-4 c = sym (parted (c .before .before .before) ∙ ap (withByte _) (sym (c .before .before .one-number .ensures .0) ∙ c .enum-told2 .given .1))
+returns-4 c = sym (parted (c .before .before .before) ∙ ap (addressAnd _) (sym (c .before .before .one-number .ensures .0) ∙ c .enum-told2 .given .1))
 
 cast-t11 : tie.Need-cast-t11
 cast-t11 c = search needs
@@ -64,7 +64,7 @@ cast-t9 : tie.Need-cast-t9
 cast-t9 c = omega (arith, byte c)
 
 returns-5 : tie.Need-returns-5
-returns-5 c = sym (parted (c .before .before .before .before) ∙ ap (withByte _) (sym (c .before .before .before .one-number .ensures .0) ∙ c .before .second .given .1))
+returns-5 c = sym (parted (c .before .before .before .before) ∙ ap (addressAnd _) (sym (c .before .before .before .one-number .ensures .0) ∙ c .before .second .given .1))
 
 pub two-numbers-spec : {M : Type 1} → statement M
 two-numbers-spec =

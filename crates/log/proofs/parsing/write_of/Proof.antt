@@ -1,6 +1,6 @@
 use borrow.Author.Needs.{needs}
 use mathlib.Core.Path.{sym, ap}
-use Rattle.log.specs.Lines.{written}
+use Rattle.log.specs.Lines.{asWrite}
 use Rattle.log.proofs.parsing.write_of.Statement.{statement}
 use Rattle.log.proofs.parsing.write_of.Tie as tie
 
@@ -11,7 +11,7 @@ enum-told : tie.Need-enum-told
 enum-told c = search needs
 
 returns : tie.Need-returns
-returns c = sym (ap written (c .before .two .given .1))
+returns c = sym (ap asWrite (c .before .two .given .1))
 
 returns-2 : tie.Need-returns-2
 returns-2 c = search needs

@@ -3,7 +3,7 @@ use mathlib.Core.Path.{_≡_, refl, ap, _∙_}
 use native.Mathlib.Omega.{arith}
 use lib.ListN.{drop}
 use Rattle.decimal.proofs.Writing.{put-none}
-use Rattle.log.specs.Lines.{lineOf}
+use Rattle.log.specs.Lines.{parsedLine}
 use Rattle.log_player.specs.Worlds.{world}
 use Rattle.log_player.specs.Logs.{malformed}
 use Rattle.log_player.specs.Applied.{playerAfter, ramAfter, queuesAfter}
@@ -19,8 +19,8 @@ stepped-requires : tie.Need-stepped-requires
 stepped-requires c κs = search needs
 
 -- what is parsed is the line
-parsed : (c : tie.After-parse) → c .parse .result ≡ lineOf (firstLine (drop (c .before .before .before .before .before .before .before .before .before .args .from) (c .before .before .before .before .before .before .before .before .before .args .input .now)))
-parsed c = c .parse .ensures ∙ ap lineOf (line-part (c .before .before .before .before .before .before .before .before .before .args .input .now) (c .before .before .before .before .before .before .before .before .before .args .from) _ (c .before .before .before .line-end .ensures))
+parsed : (c : tie.After-parse) → c .parse .result ≡ parsedLine (firstLine (drop (c .before .before .before .before .before .before .before .before .before .args .from) (c .before .before .before .before .before .before .before .before .before .args .input .now)))
+parsed c = c .parse .ensures ∙ ap parsedLine (line-part (c .before .before .before .before .before .before .before .before .before .args .input .now) (c .before .before .before .before .before .before .before .before .before .args .from) _ (c .before .before .before .line-end .ensures))
 
 returns : tie.Need-returns
 returns c =

@@ -4,7 +4,7 @@ use mathlib.Core.Bool.{Bool}
 use Prim.Native.Nat.{min}
 use lib.ListN.{length}
 use Rattle.log_player.specs.Worlds.{world, withChip}
-use Rattle.log_player.specs.Bursts.{wrote}
+use Rattle.log_player.specs.Bursts.{allWritten}
 use Rattle.log_player.proofs.Bursting.{wrote-registers, wrote-bytes}
 use Rattle.log_player.proofs.Player.write_all.Statement.{statement}
 use Rattle.log_player.proofs.Player.write_all.Tie as tie
@@ -22,7 +22,7 @@ returns c =
     let n = min (length (a .addresses .now)) (length (a .values .now)) in
     (λ i. world (withChip (a .self) (r .0 i .chip)) (r .1 i) (a .queues .now))
     ∙ sym (wrote-bytes n (a .addresses .now) (a .values .now) (a .self) (a .ram .now) (a .queues .now))
-    ∙ ap (λ (b : Bool). wrote b n (a .addresses .now) (a .values .now) (world (a .self) (a .ram .now) (a .queues .now))) (sym (c .before .before .before .before .before .if1 .taken))
+    ∙ ap (λ (b : Bool). allWritten b n (a .addresses .now) (a .values .now) (world (a .self) (a .ram .now) (a .queues .now))) (sym (c .before .before .before .before .before .if1 .taken))
 
 write-registers-requires : tie.Need-write-registers-requires
 write-registers-requires c κs = search needs
@@ -37,7 +37,7 @@ returns-2 c =
     let n = min (length (a .addresses .now)) (length (a .values .now)) in
     (λ i. world (withChip (a .self) (r .0 i .chip)) (a .ram .now) (r .1 i))
     ∙ sym (wrote-registers n (a .addresses .now) (a .values .now) (a .self) (a .ram .now) (a .queues .now))
-    ∙ ap (λ (b : Bool). wrote b n (a .addresses .now) (a .values .now) (world (a .self) (a .ram .now) (a .queues .now))) (sym (c .before .before .before .before .if1 .left))
+    ∙ ap (λ (b : Bool). allWritten b n (a .addresses .now) (a .values .now) (world (a .self) (a .ram .now) (a .queues .now))) (sym (c .before .before .before .before .if1 .left))
 
 pub write-all-spec : {M : Type 1} → statement M
 write-all-spec =

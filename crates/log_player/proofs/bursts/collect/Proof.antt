@@ -3,7 +3,7 @@ use mathlib.Core.Path.{_≡_, refl, sym, ap, _∙_}
 use Prim.Native.Nat.{_-_, _≤_}
 use native.Mathlib.Omega.{arith}
 use lib.ListN.{length, drop, length-set}
-use Rattle.log.specs.Lines.{lineOf}
+use Rattle.log.specs.Lines.{parsedLine}
 use Rattle.log_player.specs.Bursts.{Collects}
 use Rattle.log_player.proofs.Stops.{line-part}
 use Rattle.log_player.proofs.Bursting.{collects-none, collects-more, is-writing}
@@ -85,7 +85,7 @@ loop-again c =
     let a = c .before .before .before .before .before .before .before .before .before .before .before .before .before .args in
     let l = c .before .before .before .before .before .before .before .before .before .loop in
     let stop = c .before .before .before .before .before .before .before .line-end in
-    let parsed = c .before .before .before .before .parse .ensures ∙ ap lineOf (line-part (a .input .now) (l .place) (stop .result) (stop .ensures)) in
+    let parsed = c .before .before .before .before .parse .ensures ∙ ap parsedLine (line-part (a .input .now) (l .place) (stop .result) (stop .ensures)) in
     let line = sym parsed ∙ is-writing _ _ _ _ (sym (c .before .before .before .assigned-by .ensures) ∙ c .before .found .given .1) in (
       omega arith,
       simp length-set (l .inv .1),

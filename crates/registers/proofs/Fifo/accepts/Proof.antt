@@ -3,25 +3,26 @@ use mathlib.Core.Path.{_≡_}
 use mathlib.Core.Bool.{false}
 use Prim.Native.Nat.{_≤_, _<_}
 use lib.Dec.{leb}
+use Rattle.sizes.specs.Sizes.{fifoCapacity}
 use Rattle.registers.specs.Queue.{acceptsFifo}
 use Rattle.registers.specs.declared.Fifo.{Fifo}
 use Rattle.registers.proofs.Fifo.accepts.Statement.{statement}
 use Rattle.registers.proofs.Fifo.accepts.Tie as tie
 
 module _ (f : Fifo) where
-  count-out : 2048 < f .count → false ≡ acceptsFifo f
+  count-out : fifoCapacity < f .count → false ≡ acceptsFifo f
   unfolding acceptsFifo
   count-out h = simp (lt-leb _ _ h)
 
-  head-out : f .count ≤ 2048 → 2048 ≤ f .head → false ≡ acceptsFifo f
+  head-out : f .count ≤ fifoCapacity → fifoCapacity ≤ f .head → false ≡ acceptsFifo f
   unfolding acceptsFifo
   head-out n h = simp (le-leb _ _ n, le-ltb _ _ h)
 
-  sub-out : f .count ≤ 2048 → f .head < 2048 → 3 < f .sub → false ≡ acceptsFifo f
+  sub-out : f .count ≤ fifoCapacity → f .head < fifoCapacity → 3 < f .sub → false ≡ acceptsFifo f
   unfolding acceptsFifo
   sub-out n l h = simp (le-leb _ _ n, lt-ltb _ _ l, lt-leb _ _ h)
 
-  hold-test : f .count ≤ 2048 → f .head < 2048 → f .sub ≤ 3 → leb (f .hold) 65535 ≡ acceptsFifo f
+  hold-test : f .count ≤ fifoCapacity → f .head < fifoCapacity → f .sub ≤ 3 → leb (f .hold) 65535 ≡ acceptsFifo f
   unfolding acceptsFifo
   hold-test n l s = simp (le-leb _ _ n, lt-ltb _ _ l, le-leb _ _ s)
 

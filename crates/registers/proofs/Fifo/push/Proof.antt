@@ -10,13 +10,14 @@ use lib.IntN.{ℤ}
 use lib.ListN.{length, set, length-set}
 use lib.Seq.{set-out}
 use mir.Facts.{toZ-ofZ}
+use Rattle.sizes.specs.Sizes.{fifoCapacity}
 use Rattle.registers.specs.Queue.{pushed, pushedEntries}
 use Rattle.registers.specs.declared.Fifo.{Fifo}
 use Rattle.registers.proofs.Ring.{ring-place}
 use Rattle.registers.proofs.Fifo.push.Statement.{statement}
 use Rattle.registers.proofs.Fifo.push.Tie as tie
 
-put-is : (f : Fifo) (q : List ℤ) (x : ℤ) → f .count < 2048 → set q (bitAnd (bitAnd (f .head) 2047 + f .count) 2047) x ≡ pushedEntries f q x
+put-is : (f : Fifo) (q : List ℤ) (x : ℤ) → f .count < fifoCapacity → set q (bitAnd (bitAnd (f .head) 2047 + f .count) 2047) x ≡ pushedEntries f q x
 unfolding pushedEntries
 put-is f q x n = rw (lt-ltb _ _ n, ring-place (f .head) (f .count))
 

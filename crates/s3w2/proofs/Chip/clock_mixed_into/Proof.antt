@@ -8,6 +8,7 @@ use mathlib.Core.List.{List, _++_}
 use lib.IntN.{ℤ, pos}
 use lib.ListN.{length, take, drop, length-replicate}
 use borrow.Author.Tests.{not-true, not-false}
+use Rattle.sizes.specs.Sizes.{queueBuffer}
 use Rattle.sides.specs.Sides.{saturating}
 use Rattle.s3w2.specs.declared.Answer.the-variants.{Done}
 use Rattle.s3w2.specs.Answers.{answered}
@@ -21,7 +22,7 @@ use Rattle.s3w2.proofs.Chip.clock_mixed_into.Tie as tie
 
 abbrev Inv-loop : tie.InvT-loop
 Inv-loop self ram queues left₀ right₀ version core₀ n stems₀ done₀ left right core stems done =
-    Going saturating version ram queues n (mix core₀ left₀ right₀) done (mix core left right) × (length stems ≡ 4096) × (eqb (length queues) 16384 ≡ true) × (n ≤ length left₀)
+    Going saturating version ram queues n (mix core₀ left₀ right₀) done (mix core left right) × (length stems ≡ 4096) × (eqb (length queues) queueBuffer ≡ true) × (n ≤ length left₀)
 
 abbrev μ-loop : tie.MeasureT-loop
 μ-loop self ram queues left₀ right₀ version core₀ n stems₀ done₀ left right core stems done = n - done

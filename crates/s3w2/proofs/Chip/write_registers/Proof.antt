@@ -5,8 +5,9 @@ use Prim.Native.Nat.{min}
 use lib.Dec.{eqb}
 use lib.ListN.{length}
 use borrow.Author.Tests.{not-true, not-false}
+use Rattle.sizes.specs.Sizes.{queueBuffer, ramMost}
 use Rattle.s3w2.specs.Answers.{isDone, answered}
-use Rattle.s3w2.specs.Refusals.{acceptsChip, largest, queuesRefusal}
+use Rattle.s3w2.specs.Refusals.{acceptsChip, queuesRefusal}
 use Rattle.s3w2.specs.Chips.{withCore}
 use Rattle.s3w2.proofs.Refused.{nothing-amiss}
 use Rattle.s3w2.proofs.Cases.{all-there, with-queues}
@@ -48,8 +49,8 @@ returns-2 c =
     let q = a .queues .now in
     let r = c .before .before .before .before .before .before .before .refusal-with-queues in
     let w = c .before .before .write-registers in
-    let t = all-there true (eqb (length q) 16384) (acceptsChip (a .self) largest) true (r .result) (r .ensures) (sym (c .before .before .before .before .before .before .is-done .ensures) ∙ not-false _ (c .before .before .before .before .before .if1 .left)) in
-    let none = nothing-amiss true (eqb (length q) 16384) (acceptsChip (a .self) largest) true refl (t .lent) (t .accepted) refl in
+    let t = all-there true (eqb (length q) queueBuffer) (acceptsChip (a .self) ramMost) true (r .result) (r .ensures) (sym (c .before .before .before .before .before .before .is-done .ensures) ∙ not-false _ (c .before .before .before .before .before .if1 .left)) in
+    let none = nothing-amiss true (eqb (length q) queueBuffer) (acceptsChip (a .self) ramMost) true refl (t .lent) (t .accepted) refl in
     let k = w .ensures .0 ∙ with-queues q _ _ (t .lent) in
     let e = registers-done (a .self) q (a .addresses .now) (a .values .now) (t .lent) (t .accepted) (chip-fits (a .self) (start .good .0 .1 .1) .sized) (λ i. c .before .before .before .before .before .before .before .before .shared-slice-known2 .given i .fits) (min (length (a .addresses .now)) (length (a .values .now))) in
     (c .with-core .ensures ∙ (λ i. answered (withCore (a .self) (k i)) (none i)) ∙ (λ i. answered (e i .chip) (queuesRefusal (a .self) (length q))), w .ensures .1 ∙ with-queues q _ _ (t .lent) ∙ (λ i. e i .queues))

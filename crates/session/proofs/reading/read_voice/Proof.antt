@@ -3,8 +3,8 @@ use mathlib.Core.Path.{sym, ap, _∙_}
 use borrow.Author.Tests.{not-true, not-false}
 use Rattle.session.specs.declared.LineAnswer.the-variants.{Done}
 use Rattle.s3w2.specs.declared.Chip.{Chip}
-use Rattle.voice_line.specs.Lines.{readVoice}
-use Rattle.session.specs.Answers.{answered}
+use Rattle.session_lines.specs.Lines.{readVoice}
+use Rattle.session.specs.Answers.{lineAnswered}
 use Rattle.session.specs.Voices.{readVoiceCalled, readVoiceQueues}
 use Rattle.session.proofs.Told.{read-named}
 use Rattle.session.proofs.Lines.{not-lent, not-accepted, goes-on, voice-called, voice-queues, fault-called, fault-queues}
@@ -73,7 +73,7 @@ returns-3 c =
     let r = readVoice (a .chip .version) (a .text .now) in
     let v = sym (k .check-voice .ensures) ∙ l .line .given .1 in
     let d = c .before .before .load in (
-      c .answers3 .ensures ∙ ap (λ (x : Chip). answered x Done) (d .ensures .0) ∙ voice-called r _ v (a .chip) ∙ goes-on (a .chip) (a .queues .now) _ _ _ n e,
+      c .answers3 .ensures ∙ ap (λ (x : Chip). lineAnswered x Done) (d .ensures .0) ∙ voice-called r _ v (a .chip) ∙ goes-on (a .chip) (a .queues .now) _ _ _ n e,
       d .ensures .1 ∙ voice-queues r _ v (a .queues .now) ∙ goes-on (a .chip) (a .queues .now) _ _ _ n e,
     )
 

@@ -1,8 +1,8 @@
 use borrow.Author.Needs.{needs}
 use mathlib.Core.Path.{refl, sym, _∙_}
 use borrow.Author.Tests.{not-true, not-false}
-use Rattle.voice_line.proofs.Whole.{write-none}
-use Rattle.session.specs.Voices.{lineOf, writeVoiceAnswer, writeVoiceText}
+use Rattle.session_lines.proofs.Whole.{write-none}
+use Rattle.session.specs.Voices.{lineOfVoice, writeVoiceAnswer, writeVoiceText}
 use Rattle.session.proofs.Lines.{not-lent, not-accepted, own-line, line-answer, line-text}
 use Rattle.session.proofs.writing.write_voice.Statement.{statement}
 use Rattle.session.proofs.writing.write_voice.Tie as tie
@@ -25,7 +25,7 @@ returns-2 c =
     (not-accepted (a .chip) (a .queues .now) _ _ _ n e, not-accepted (a .chip) (a .queues .now) _ _ _ n e)
 
 returns-3 : tie.Need-returns-3
-unfolding lineOf
+unfolding lineOfVoice
 returns-3 c =
     let b = c .before .before in
     let a = b .before .before .before .args in

@@ -5,7 +5,7 @@ use Prim.Native.Nat.{_≤_, _<_, _+_, _*_, _-_, _^_}
 use native.Mathlib.Nat.{mul-le-mul}
 use Rattle.sqv4.specs.declared.Fault.{Fault}
 use Rattle.sqv4.specs.declared.Inspected.the-variants.{NonZeroPadding}
-use Rattle.sqv4.specs.Files.{unless}
+use Rattle.sqv4.specs.Files.{unlessFault}
 use Rattle.sqv4.proofs.Checks.{total as totalOf, rest, turn, room, rest-all, faults-none, not-fine}
 use Rattle.sqv4.proofs.check.faults.Statement.{statement}
 use Rattle.sqv4.proofs.check.faults.Tie as tie
@@ -55,7 +55,7 @@ told-requires : tie.Need-told-requires Inv-loop μ-loop
 told-requires c κs = search needs
 
 -- what the fragment's fault makes of the rest
-turned : (c : tie.After-fault-in Inv-loop μ-loop) → rest (c .before .before .before .before .before .before .before .before .args .file .now) (c .before .before .before .before .before .before .before .before .args .header) (c .before .before .before .before .loop .position) ≡ unless (c .fault-in .result) (rest (c .before .before .before .before .before .before .before .before .args .file .now) (c .before .before .before .before .before .before .before .before .args .header) (c .before .before .before .before .loop .position + 1))
+turned : (c : tie.After-fault-in Inv-loop μ-loop) → rest (c .before .before .before .before .before .before .before .before .args .file .now) (c .before .before .before .before .before .before .before .before .args .header) (c .before .before .before .before .loop .position) ≡ unlessFault (c .fault-in .result) (rest (c .before .before .before .before .before .before .before .before .args .file .now) (c .before .before .before .before .before .before .before .before .args .header) (c .before .before .before .before .loop .position + 1))
 turned c =
     let a = c .before .before .before .before .before .before .before .before .args in
     let l = c .before .before .before .before .loop in
@@ -83,7 +83,7 @@ loop-again : tie.Need-loop-again Inv-loop μ-loop
 loop-again c =
     let s = c .before .before .before .before .before .before .before .before .before .before in
     let l = c .before .before .before .before .before .before .loop in
-    (omega (arith, c .before .before .before .before .before .loop-test .taken), omega arith, sym (turned (c .before .before) ∙ ap (λ (y : Fault). unless y (rest (s .args .file .now) (s .args .header) (l .position + 1))) (c .enum-told .given .1)) ∙ l .inv .2)
+    (omega (arith, c .before .before .before .before .before .loop-test .taken), omega arith, sym (turned (c .before .before) ∙ ap (λ (y : Fault). unlessFault y (rest (s .args .file .now) (s .args .header) (l .position + 1))) (c .enum-told .given .1)) ∙ l .inv .2)
 
 returns-2 : tie.Need-returns-2 Inv-loop μ-loop
 returns-2 c =

@@ -2,7 +2,7 @@ use borrow.Author.Needs.{needs}
 use mathlib.Core.Path.{sym, ap}
 use Rattle.sqv4.specs.declared.Fault.{Fault}
 use Rattle.sqv4.specs.declared.Inspected.the-variants.{NonZeroPadding}
-use Rattle.sqv4.specs.Files.{unless}
+use Rattle.sqv4.specs.Files.{unlessFault}
 use Rattle.sqv4.proofs.check.told.Statement.{statement}
 use Rattle.sqv4.proofs.check.told.Tie as tie
 
@@ -19,7 +19,7 @@ returns : tie.Need-returns
 returns c = search needs
 
 returns-2 : tie.Need-returns-2
-returns-2 c = sym (ap (λ (f : Fault). unless f NonZeroPadding) (c .before .fault .given .1))
+returns-2 c = sym (ap (λ (f : Fault). unlessFault f NonZeroPadding) (c .before .fault .given .1))
 
 returns-3 : tie.Need-returns-3
 returns-3 c = search needs

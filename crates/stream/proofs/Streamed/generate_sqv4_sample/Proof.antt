@@ -10,7 +10,7 @@ use Rattle.num.specs.Lists.{part}
 use Rattle.stream.specs.declared.StreamCache.{StreamCache}
 use Rattle.stream.specs.declared.Opened.the-variants.{NoFile, File}
 use Rattle.stream.specs.Cache.{Stock, stock, filledWith}
-use Rattle.stream.specs.Tick.{Ticked, unheard, tickOf}
+use Rattle.stream.specs.Tick.{StreamTick, unheard, tickOf}
 use Rattle.stream.specs.Cached.{heldFound, freshFound, streamedOf}
 use Rattle.stream.proofs.Accepts.{accepted-as, accepted-ready}
 use Rattle.stream.proofs.Openings.{opened-accepted}
@@ -26,7 +26,7 @@ returns c =
     let a = c .before .before .before .args in
     let s = stock (a .self .cache) (a .samples .now) in
     let e = tick-by (a .ram .now) (a .p) s (a .self .phase) (a .self .active) (unheard s) (found-short (a .ram .now) (a .p) s (ne-eqb (length (a .samples .now)) 128 (c .before .if1 .taken))) in
-    (c .silent .ensures ∙ ap streamedOf e, ap (λ (t : Ticked Stock). t .stream .samples) e)
+    (c .silent .ensures ∙ ap streamedOf e, ap (λ (t : StreamTick Stock). t .stream .samples) e)
 
 accepts-requires : tie.Need-accepts-requires
 accepts-requires c κs = search needs
@@ -48,7 +48,7 @@ returns-2 c =
     let s = stock (a .self .cache) (a .samples .now) in
     let f = found-held (a .ram .now) (a .p) s (eq-eqb (length (a .samples .now)) 128 (c .before .before .before .before .before .before .before .before .if1 .left)) (c .before .before .before .before .before .before .if2 .taken) (sym (c .before .before .before .before .before .accepts .ensures) ∙ c .before .before .before .before .if3 .taken) in
     let e = ap (λ (d : List ℕ). tickOf (a .p) (a .self .phase) (a .self .active) (heldFound d s (a .self .cache .variant))) (c .before .before .stream-bytes .ensures) ∙ tick-by (a .ram .now) (a .p) s (a .self .phase) (a .self .active) (heldFound (part (a .ram .now) (a .p .start) (a .p .end - a .p .start)) s (a .self .cache .variant)) f in
-    (c .before .play .ensures .0 ∙ ap streamedOf e, c .before .play .ensures .1 ∙ ap (λ (t : Ticked Stock). t .stream .samples) e)
+    (c .before .play .ensures .0 ∙ ap streamedOf e, c .before .play .ensures .1 ∙ ap (λ (t : StreamTick Stock). t .stream .samples) e)
 
 silent-requires-2 : tie.Need-silent-requires-2
 silent-requires-2 c κs = search needs
@@ -58,7 +58,7 @@ returns-3 c =
     let a = c .before .before .before .before .before .before .before .args in
     let s = stock (a .self .cache) (a .samples .now) in
     let e = tick-by (a .ram .now) (a .p) s (a .self .phase) (a .self .active) (unheard s) (found-odd (a .ram .now) (a .p) s (eq-eqb (length (a .samples .now)) 128 (c .before .before .before .before .before .if1 .left)) (c .before .before .before .if2 .taken) (sym (c .before .before .accepts .ensures) ∙ c .before .if3 .left)) in
-    (c .silent2 .ensures ∙ ap streamedOf e, ap (λ (t : Ticked Stock). t .stream .samples) e)
+    (c .silent2 .ensures ∙ ap streamedOf e, ap (λ (t : StreamTick Stock). t .stream .samples) e)
 
 initialize-sqv4-requires : tie.Need-initialize-sqv4-requires
 initialize-sqv4-requires c κs = search needs
@@ -87,7 +87,7 @@ returns-4 c =
     let s = stock (a .self .cache) (a .samples .now) in
     let f = found-fresh (a .ram .now) (a .p) s (eq-eqb (length (a .samples .now)) 128 (c .before .before .before .before .before .before .before .before .before .before .if1 .left)) (c .before .before .before .before .before .before .before .before .if2 .left) NoFile (sym (c .before .before .before .before .before .before .before .initialize-sqv4 .ensures) ∙ c .before .before .before .before .before .enum-told .given .1) in
     let e = tick-by (a .ram .now) (a .p) s (a .self .phase) (a .self .active) (freshFound (part (a .ram .now) (a .p .start) (a .p .end - a .p .start)) (a .samples .now) NoFile) f in
-    (c .stopped .ensures ∙ ap (λ (x : StreamCache). record { cache = x; phase = a .self .phase; active = false; q8 = pos 0 }) (c .before .empty .ensures) ∙ ap streamedOf e, c .before .before .before .clear .ensures ∙ ap (λ (t : Ticked Stock). t .stream .samples) e)
+    (c .stopped .ensures ∙ ap (λ (x : StreamCache). record { cache = x; phase = a .self .phase; active = false; q8 = pos 0 }) (c .before .empty .ensures) ∙ ap streamedOf e, c .before .before .before .clear .ensures ∙ ap (λ (t : StreamTick Stock). t .stream .samples) e)
 
 filled-requires : tie.Need-filled-requires
 filled-requires c κs = search needs
@@ -115,7 +115,7 @@ returns-5 c =
     let e = ap (λ (d : List ℕ). tickOf (a .p) (a .self .phase) (a .self .active) (heldFound d (stock (c .before .before .before .before .filled .result) (a .samples .now)) (c .before .before .before .before .filled .result .variant))) (c .before .before .stream-bytes2 .ensures)
     ∙ ap (λ (x : StreamCache). tickOf (a .p) (a .self .phase) (a .self .active) (heldFound file (stock x (a .samples .now)) (x .variant))) (c .before .before .before .before .filled .ensures)
     ∙ tick-by (a .ram .now) (a .p) s (a .self .phase) (a .self .active) (freshFound file (a .samples .now) (File (k .0 .0) (k .0 .1 .0))) f in
-    (c .before .play2 .ensures .0 ∙ ap streamedOf e, c .before .play2 .ensures .1 ∙ ap (λ (t : Ticked Stock). t .stream .samples) e)
+    (c .before .play2 .ensures .0 ∙ ap streamedOf e, c .before .play2 .ensures .1 ∙ ap (λ (t : StreamTick Stock). t .stream .samples) e)
 
 pub generate-sqv4-sample-spec : {M : Type 1} → statement M
 generate-sqv4-sample-spec =

@@ -5,7 +5,7 @@ use Rattle.stream.specs.declared.Plan.{Plan}
 use Rattle.stream.specs.declared.Plan.the-variants.{Stop}
 use Rattle.stream.specs.declared.Streamed.{Streamed}
 use Rattle.stream.specs.Cache.{Stock, stock}
-use Rattle.stream.specs.Tick.{Ticked, tickOf, heardAt}
+use Rattle.stream.specs.Tick.{StreamTick, tickOf, heardAt}
 use Rattle.stream.specs.Cached.{heldFound, streamedOf, cachedRead}
 use Rattle.stream.proofs.Heard.{by-plan, sampled, plan-asks, Asked}
 use Rattle.stream.proofs.Streamed.play.Statement.{statement}
@@ -24,7 +24,7 @@ returns : tie.Need-returns
 returns c =
     let a = c .before .before .before .before .before .args in
     let e = sym (ap (λ (h : Held). tickOf (a .p) (a .self .phase) (a .self .active) (heldFound (a .file .now) (stock (a .self .cache) (a .samples .now)) h)) (c .before .enum-told .given .1)) in
-    (c .silent .ensures ∙ ap streamedOf e, ap (λ (t : Ticked Stock). t .stream .samples) e)
+    (c .silent .ensures ∙ ap streamedOf e, ap (λ (t : StreamTick Stock). t .stream .samples) e)
 
 plan-of-requires : tie.Need-plan-of-requires
 plan-of-requires c κs = search needs
@@ -43,7 +43,7 @@ returns-2 c =
     let a = c .before .before .before .before .before .before .before .before .before .before .args in
     let k = c .before .before .before .before .before .before .held .given in
     let e = by-plan (a .file .now) (a .self) (a .samples .now) (a .p) (k .0 .0) (k .1) Stop (sym (c .before .before .before .plan-of .ensures) ∙ c .before .enum-told2 .given .1) in
-    (c .stopped .ensures ∙ ap streamedOf e, ap (λ (t : Ticked Stock). t .stream .samples) e)
+    (c .stopped .ensures ∙ ap streamedOf e, ap (λ (t : StreamTick Stock). t .stream .samples) e)
 
 fraction-requires : tie.Need-fraction-requires
 fraction-requires c κs = search needs
@@ -71,7 +71,7 @@ returns-3 c =
     let f = c .before .before .before .fraction .result in
     let h = heardAt (cachedRead (a .file .now) (k .0 .0) (a .self .cache .info)) (a .self .cache .info) (a .p) f (stock (a .self .cache) (a .samples .now)) (g .0 .0) in
     let e = sampled (a .file .now) (a .self) (a .samples .now) (a .p) (k .0 .0) (k .1) (g .0 .0) (g .0 .1 .0) f h (c .stepped .result) (sym (c .before .before .before .before .before .before .before .before .plan-of .ensures) ∙ g .1) (c .before .before .before .fraction .ensures) refl (c .stepped .ensures) in
-    (ap (λ (v : Streamed). record { cache = v .cache; phase = c .stepped .result; active = v .active; q8 = v .q8 }) (r .ensures .0) ∙ ap streamedOf e, r .ensures .1 ∙ ap (λ (t : Ticked Stock). t .stream .samples) e)
+    (ap (λ (v : Streamed). record { cache = v .cache; phase = c .stepped .result; active = v .active; q8 = v .q8 }) (r .ensures .0) ∙ ap streamedOf e, r .ensures .1 ∙ ap (λ (t : StreamTick Stock). t .stream .samples) e)
 
 pub play-spec : {M : Type 1} → statement M
 play-spec =

@@ -10,7 +10,7 @@ use Rattle.stream.specs.declared.StreamCache.{StreamCache}
 use Rattle.stream.specs.Cache.{Stock, stock, Plays, framesOf, fragmentSamples, fragmentState, ensureIn}
 use Rattle.stream.specs.Tick.{Given}
 use Rattle.stream.specs.Cached.{cachedRead}
-use Rattle.stream.specs.Ready.{heardAs}
+use Rattle.stream.specs.Ready.{withGiven}
 use Rattle.stream.proofs.Fragments.{frame-there}
 use Rattle.stream.proofs.Onward.{Kept, kept-ensure}
 use Rattle.stream.proofs.Heard.{heard-one, heard-two, read-is, mixes-next}
@@ -86,7 +86,7 @@ returns c =
     (e₂ .ensures .1 ∙ ap (λ (x : Info). ensureIn (a .file .now) (a .variant) x s₁ (c .before .before .before .before .before .frame-of2 .result) .samples) (w .info)) (t₂ .ensures) in
     let h = heard-two (cachedRead (a .file .now) (a .variant) i) i (a .p) (a .frac) (stock (a .self .cache) (a .samples .now)) (a .i) g r (sym (c .before .before .before .before .before .before .before .before .is-mixed .ensures .0) ∙ c .before .before .before .before .before .before .before .if1 .taken) n q (c .blend-samples .result)
     (rw (back w16 (t₁ .result) (sfits-of (t₁ .ok)), back w16 (t₂ .result) (sfits-of (t₂ .ok))) at (c .blend-samples .ensures .0)) in
-    (ap (heardAs (a .self)) h, ap (λ (x : Given Stock). x .left .samples) h)
+    (ap (withGiven (a .self)) h, ap (λ (x : Given Stock). x .left .samples) h)
 
 raised-sample-requires : tie.Need-raised-sample-requires
 raised-sample-requires c κs = search needs
@@ -106,7 +106,7 @@ returns-2 c =
     let r : g ≡ cachedRead (a .file .now) (a .variant) i (stock (a .self .cache) (a .samples .now)) (a .i) = read-is (a .file .now) (a .variant) i (stock (a .self .cache) (a .samples .now)) (a .i) (f .before .frame-of .result) (f .ensure-sqv4-frame .result) (f .ensure-sqv4-frame .last .1 .0) (t₁ .result) (f .before .frame-of .ensures) (f .ensure-sqv4-frame .ensures .0) (f .ensure-sqv4-frame .ensures .1) (t₁ .ensures) in
     let h = heard-one (cachedRead (a .file .now) (a .variant) i) i (a .p) (a .frac) (stock (a .self .cache) (a .samples .now)) (a .i) g r (sym (c .before .before .is-mixed .ensures .0) ∙ c .before .if1 .left) (c .raised-sample .result)
     (rw (back w16 (t₁ .result) (sfits-of (t₁ .ok))) at (c .raised-sample .ensures .0)) in
-    (ap (heardAs (a .self)) h, ap (λ (x : Given Stock). x .left .samples) h)
+    (ap (withGiven (a .self)) h, ap (λ (x : Given Stock). x .left .samples) h)
 
 pub sample-spec : {M : Type 1} → statement M
 sample-spec =

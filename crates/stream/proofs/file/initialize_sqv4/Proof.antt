@@ -6,7 +6,7 @@ use native.Mathlib.Omega.{arith}
 use lib.ListN.{length-take, length-drop}
 use borrow.Author.Tests.{lt-ltb, le-ltb, le-leb, lt-leb}
 use Rattle.sqv4.specs.Files.{inspected}
-use Rattle.stream.specs.File.{taken, openedFrom, sourceOf}
+use Rattle.stream.specs.File.{openedAs, openedFrom, sourceOf}
 use Rattle.stream.proofs.file.initialize_sqv4.Statement.{statement}
 use Rattle.stream.proofs.file.initialize_sqv4.Tie as tie
 
@@ -31,7 +31,7 @@ unfolding openedFrom sourceOf
 returns-3 c =
     let a = c .before .before .before .before .before .args in
     rw (lt-ltb (a .start) (a .end) (c .before .before .before .if1 .left), le-leb (a .end) _ (c .before .before .if2 .left))
-    (c .open-bytes .ensures ∙ ap (λ (l : List ℕ). taken (a .wants-v3) (a .start) (a .loop-addr) (inspected l)) (c .before .stream-bytes .ensures))
+    (c .open-bytes .ensures ∙ ap (λ (l : List ℕ). openedAs (a .wants-v3) (a .start) (a .loop-addr) (inspected l)) (c .before .stream-bytes .ensures))
 
 pub initialize-sqv4-spec : {M : Type 1} → statement M
 initialize-sqv4-spec =

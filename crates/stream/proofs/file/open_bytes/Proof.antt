@@ -3,7 +3,7 @@ use mathlib.Core.Path.{_≡_, sym, ap, _∙_}
 use native.Mathlib.Omega.{arith}
 use Rattle.sqv4.specs.Files.{inspected}
 use Rattle.sqv4.specs.declared.Inspected.the-variants.{Accepted}
-use Rattle.stream.specs.File.{taken}
+use Rattle.stream.specs.File.{openedAs}
 use Rattle.stream.proofs.Openings.{refused-none, header-fits}
 use Rattle.stream.proofs.file.open_bytes.Statement.{statement}
 use Rattle.stream.proofs.file.open_bytes.Tie as tie
@@ -21,7 +21,7 @@ returns : tie.Need-returns
 returns c =
     let a = c .before .before .before .args in
     refused-none (a .wants-v3) (a .start) (a .loop-addr) (c .before .inspect .result) (c .match .keys2)
-    ∙ ap (taken (a .wants-v3) (a .start) (a .loop-addr)) (c .before .inspect .ensures)
+    ∙ ap (openedAs (a .wants-v3) (a .start) (a .loop-addr)) (c .before .inspect .ensures)
 
 is-wanted-requires : tie.Need-is-wanted-requires
 is-wanted-requires c κs = search needs
@@ -36,12 +36,12 @@ returns-2 : tie.Need-returns-2
 returns-2 c =
     let a = c .before .before .before .before .before .before .before .before .args in
     c .with-loop .ensures
-    ∙ rw (sym (c .before .before .is-wanted .ensures) ∙ c .before .if1 .taken) at (sym (ap (taken (a .wants-v3) (a .start) (a .loop-addr)) (found (c .before .before .before .before))))
+    ∙ rw (sym (c .before .before .is-wanted .ensures) ∙ c .before .if1 .taken) at (sym (ap (openedAs (a .wants-v3) (a .start) (a .loop-addr)) (found (c .before .before .before .before))))
 
 returns-3 : tie.Need-returns-3
 returns-3 c =
     let a = c .before .before .before .before .before .before .before .args in
-    rw (sym (c .before .is-wanted .ensures) ∙ c .if1 .left) at (sym (ap (taken (a .wants-v3) (a .start) (a .loop-addr)) (found (c .before .before .before))))
+    rw (sym (c .before .is-wanted .ensures) ∙ c .if1 .left) at (sym (ap (openedAs (a .wants-v3) (a .start) (a .loop-addr)) (found (c .before .before .before))))
 
 pub open-bytes-spec : {M : Type 1} → statement M
 open-bytes-spec =

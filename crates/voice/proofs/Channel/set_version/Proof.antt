@@ -4,7 +4,7 @@ use Rattle.stream.specs.Cache.{emptied}
 use Rattle.registers.specs.Control.{setWaveform}
 use Rattle.registers.specs.Queue.{defaultFifo}
 use Rattle.registers.specs.declared.Registers.{Registers}
-use Rattle.voice.specs.Channel.{setFifo, setStream, setRegisters, setVersion}
+use Rattle.voice.specs.Channel.{setFifo, setStream, setRegisters, setChannelVersion}
 use Rattle.voice.specs.declared.Channel.{Channel}
 use Rattle.voice.proofs.Channel.set_version.Statement.{statement}
 use Rattle.voice.proofs.Channel.set_version.Tie as tie
@@ -22,7 +22,7 @@ invalidate-sqv4-requires : tie.Need-invalidate-sqv4-requires
 invalidate-sqv4-requires c κs = search needs
 
 returns : tie.Need-returns
-unfolding setVersion
+unfolding setChannelVersion
 returns c =
     let s = c .before .before .before .before .before .args .self in
     c .invalidate-sqv4 .ensures

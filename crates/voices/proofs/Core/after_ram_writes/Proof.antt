@@ -5,6 +5,7 @@ use mathlib.Core.Logic.{⊎-elim}
 use Prim.Native.Nat.{_+_, _*_, _-_, _≤_, _<_}
 use native.Mathlib.Omega.{arith}
 use lib.ListN.{length, getD}
+use Rattle.sizes.specs.Sizes.{numChannels}
 use Rattle.voices.proofs.Storing.{stored-emptied}
 use Rattle.voices.proofs.Loops.{ram-emptied, ram-kept}
 use Rattle.voices.proofs.Listed.{emptiedTo, no-byte, byte-in, byte-out, byte-over, every-byte}
@@ -18,7 +19,7 @@ use Rattle.voices.proofs.stored.clear_fragments.Reads as clear-fragment
 
 abbrev Inv-loop : tie.InvT-loop
 Inv-loop ram addresses core₀ i₀ ch₀ core i ch =
-    (core ≡ emptiedTo ram addresses core₀ i ch) × (8 * i + ch ≤ 8 * length addresses) × (ch < 8)
+    (core ≡ emptiedTo ram addresses core₀ i ch) × (8 * i + ch ≤ 8 * length addresses) × (ch < numChannels)
 
 abbrev μ-loop : tie.MeasureT-loop
 μ-loop ram addresses core₀ i₀ ch₀ core i ch = 8 * length addresses - (8 * i + ch)

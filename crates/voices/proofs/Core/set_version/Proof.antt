@@ -3,6 +3,7 @@ use mathlib.Core.Path.{_≡_, refl}
 use Prim.Native.Nat.{_-_, _≤_}
 use native.Mathlib.Omega.{arith}
 use lib.ListN.{length, length-map}
+use Rattle.sizes.specs.Sizes.{numChannels}
 use Rattle.voices.proofs.Loops.{underTo, under-more, under-all}
 use Rattle.voices.proofs.Core.set_version.Statement.{statement}
 use Rattle.voices.proofs.Core.set_version.Tie as tie
@@ -47,7 +48,7 @@ returns : tie.Need-returns Inv-loop μ-loop
 returns c =
     let l = c .before .before .loop in
     let a = c .before .before .before .args in
-    let n : length (a .self .channels) ≡ 8 = simp length-map at (c .before .before .before .good .0 .1 .1 .0 .1 .0 .1) in
+    let n : length (a .self .channels) ≡ numChannels = simp length-map at (c .before .before .before .good .0 .1 .1 .0 .1 .0 .1) in
     under-all (a .self) (a .version) (l .ch) (l .core) (l .inv .1) (omega (arith, n, c .before .loop-test .left))
 
 pub set-version-spec : {M : Type 1} → statement M

@@ -1,0 +1,55 @@
+-- What the code does at each call of the list, in the words of its contracts.
+use mathlib.Core.List.{[], _∷_}
+use lib.ListN.{length}
+use Rattle.sides.specs.Sides.{saturating, wrapping}
+use Rattle.s3w2.specs.Fresh.{setVersionCalled, resetCalled, resetRam, resetChannelCalled}
+use Rattle.s3w2.specs.Registers.{writeRegisterCalled, writeRegisterBuffer, readRegisterCalled, peekRegisterAnswer}
+use Rattle.s3w2.specs.Channels.{writeChannelWavetableCalled, readChannelWavetableAnswer, writeChannelControlCalled, writeChannelControlBuffer, readChannelControlCalled, writeChannelPcmRegCalled, readChannelPcmRegAnswer, wavetableLengthAnswer, interpolatesAnswer}
+use Rattle.s3w2.specs.Ram.{writePcmRamCalled, writePcmRamRam, readPcmRamAnswer}
+use Rattle.s3w2.specs.Sound.{generateSampleCalled, clockCalled, clockStems}
+use Rattle.s3w2.specs.Mixing.{mixedCalled, mixedLeft, mixedRight, clockMixedCalled, clockMixedLeft, clockMixedRight}
+use Rattle.session.specs.Heads.{writeHeadAnswer, writeHeadText, readHeadCalled}
+use Rattle.session.specs.Voices.{writeVoiceAnswer, writeVoiceText, readVoiceCalled, readVoiceQueues}
+use Rattle.call_lists.specs.Runs.{Outcome}
+use Rattle.call_lists.specs.Calls.{CallAnswer, Call, reset, setVersion, resetChannel, writeRegister, readRegister, peekRegister, writeChannelControl, readChannelControl, writeChannelPcmReg, readChannelPcmReg, writeChannelWavetable, readChannelWavetable, wavetableLength, interpolates, writePcmRam, readPcmRam, generateSample, clock, clockMixed, clockMixedInto, clockMixedIntoI32, writeHead, readHead, writeVoice, readVoice}
+use Rattle.chip_calls.specs.Ties.{Machine, by, sounded, onlyTells, wroteBy, readBy}
+use Rattle.chip_calls.specs.Values.{sampleCallValues, clockCallValues, mixedCallValues, clockMixedCallValues}
+
+unfoldable pub code : Machine → Call → Outcome Machine CallAnswer
+code m reset = by (resetCalled (m .chip) (length (m .ram))) (resetRam (m .chip) (m .ram)) (m .queues) []
+code m (setVersion version) = by (setVersionCalled (m .chip) version) (m .ram) (m .queues) []
+code m (resetChannel ch) = by (resetChannelCalled (m .chip) ch) (m .ram) (m .queues) []
+code m (writeRegister address value) = by (writeRegisterCalled (m .chip) (length (m .queues)) address value) (m .ram) (writeRegisterBuffer (m .chip) (m .queues) address value) []
+code m (readRegister address) = by (readRegisterCalled (m .chip) address) (m .ram) (m .queues) []
+code m (peekRegister address) = onlyTells (m .chip) (m .ram) (m .queues) (peekRegisterAnswer (m .chip) address)
+code m (writeChannelControl ch offset value) =
+    by (writeChannelControlCalled (m .chip) (length (m .queues)) ch offset value) (m .ram) (writeChannelControlBuffer (m .chip) (m .queues) ch offset value) []
+code m (readChannelControl ch offset) = by (readChannelControlCalled (m .chip) ch offset) (m .ram) (m .queues) []
+code m (writeChannelPcmReg ch offset value) = by (writeChannelPcmRegCalled (m .chip) ch offset value) (m .ram) (m .queues) []
+code m (readChannelPcmReg ch offset) = onlyTells (m .chip) (m .ram) (m .queues) (readChannelPcmRegAnswer (m .chip) ch offset)
+code m (writeChannelWavetable ch at value) = by (writeChannelWavetableCalled (m .chip) ch at value) (m .ram) (m .queues) []
+code m (readChannelWavetable ch at) = onlyTells (m .chip) (m .ram) (m .queues) (readChannelWavetableAnswer (m .chip) ch at)
+code m (wavetableLength ch) = onlyTells (m .chip) (m .ram) (m .queues) (wavetableLengthAnswer (m .chip) ch)
+code m (interpolates ch) = onlyTells (m .chip) (m .ram) (m .queues) (interpolatesAnswer (m .chip) ch)
+code m (writePcmRam address value) = by (writePcmRamCalled (m .chip) (length (m .ram)) address) (writePcmRamRam (m .chip) (m .ram) address value) (m .queues) []
+code m (readPcmRam address) = onlyTells (m .chip) (m .ram) (m .queues) (readPcmRamAnswer (m .chip) (m .ram) address)
+code m (generateSample ch) = sounded (generateSampleCalled (m .chip) (m .ram) (m .queues) ch) (m .ram) (m .queues) [] (sampleCallValues (m .chip) (m .ram) (m .queues) ch)
+code m (clock n stems) =
+    sounded (clockCalled (m .chip) (m .ram) (m .queues) n (length stems)) (m .ram) (m .queues) (clockStems (m .chip) (m .ram) (m .queues) n stems ∷ [])
+    (clockCallValues (m .chip) (m .ram) (m .queues) n (length stems))
+code m (clockMixed left right) =
+    sounded (clockMixedCalled (m .chip) (m .ram) (m .queues) left right) (m .ram) (m .queues)
+    (clockMixedLeft (m .chip) (m .ram) (m .queues) left right ∷ clockMixedRight (m .chip) (m .ram) (m .queues) left right ∷ [])
+    (clockMixedCallValues (m .chip) (m .ram) (m .queues) left right)
+code m (clockMixedInto left right) =
+    sounded (mixedCalled saturating (m .chip) (m .ram) (m .queues) left right) (m .ram) (m .queues)
+    (mixedLeft saturating (m .chip) (m .ram) (m .queues) left right ∷ mixedRight saturating (m .chip) (m .ram) (m .queues) left right ∷ [])
+    (mixedCallValues (m .chip) (m .ram) (m .queues) saturating left right)
+code m (clockMixedIntoI32 left right) =
+    sounded (mixedCalled wrapping (m .chip) (m .ram) (m .queues) left right) (m .ram) (m .queues)
+    (mixedLeft wrapping (m .chip) (m .ram) (m .queues) left right ∷ mixedRight wrapping (m .chip) (m .ram) (m .queues) left right ∷ [])
+    (mixedCallValues (m .chip) (m .ram) (m .queues) wrapping left right)
+code m (writeHead out) = wroteBy (m .chip) (m .ram) (m .queues) (writeHeadAnswer (m .chip) out) (writeHeadText (m .chip) out)
+code m (readHead text) = readBy (readHeadCalled (m .chip) text) (m .ram) (m .queues)
+code m (writeVoice ch out) = wroteBy (m .chip) (m .ram) (m .queues) (writeVoiceAnswer (m .chip) (m .queues) ch out) (writeVoiceText (m .chip) (m .queues) ch out)
+code m (readVoice text) = readBy (readVoiceCalled (m .chip) (m .queues) text) (m .ram) (readVoiceQueues (m .chip) (m .queues) text)

@@ -1,0 +1,124 @@
+-- A voice that is read is accepted, its cache is empty and its queue's head at 0. Assumes nothing.
+use mathlib.Core.Path.{_≡_, refl, sym, ap, _∙_, subst}
+use mathlib.Core.Bool.{Bool, true, false}
+use mathlib.Core.List.{List, [], _∷_, map}
+use Prim.Native.Nat.{ℕ, zero, suc, _%_, _^_, _≤_, _<_}
+use native.Mathlib.Omega.{arith}
+use lib.IntN.{pos}
+use lib.ListN.{length, getD}
+use mir.Syntax.{w16}
+use mir.Val.{SFits}
+use borrow.Author.Tests.{le-leb, lt-ltb}
+use Rattle.sizes.specs.Sizes.{fifoCapacity}
+use Rattle.num.proofs.Choice.{together}
+use Rattle.num.proofs.Integers.{fit}
+use Rattle.line_fields.specs.Table.{mostOf, sampleOfNumber}
+use Rattle.line_fields.specs.Reading.{ReadLine, line, readLine}
+use Rattle.line_fields.specs.Reading as lines
+use Rattle.line_fields.proofs.Good.{Good, read-good}
+use Rattle.line_fields.proofs.Putting.{sample-fits}
+use Rattle.registers.specs.Waveforms.{waveformFrom, waveformNumber}
+use Rattle.version.specs.Versions.{has3ws8pna}
+use Rattle.version.specs.declared.SguVersion.{SguVersion}
+use Rattle.ticks.specs.Oscillators.{acceptsOscillator}
+use Rattle.ticks.proofs.Ranges.{accepted-oscillator}
+use Rattle.stream.specs.Cache.{emptied}
+use Rattle.voice.specs.Accepted.{AcceptedChannel, acceptsStream}
+use Rattle.session_lines.specs.Numbers.{at, entries, lowByte, channelFrom, tableOf, queuedSamples}
+use Rattle.session_lines.specs.Lines.{NumberedVoice, voice, voiceOf, voiceFrom, readVoice}
+use Rattle.session_lines.proofs.Storing.{size-read-table, size-samples}
+use Rattle.session_lines.proofs.Back.{Whole}
+
+wave-number : (n : ℕ) → n ≤ 5 → waveformNumber (waveformFrom n) ≡ n
+wave-number zero h = refl
+wave-number (suc zero) h = refl
+wave-number (suc (suc zero)) h = refl
+wave-number (suc (suc (suc zero))) h = refl
+wave-number (suc (suc (suc (suc zero)))) h = refl
+wave-number (suc (suc (suc (suc (suc zero))))) h = refl
+wave-number (suc (suc (suc (suc (suc (suc n)))))) h = absurd (omega arith)
+
+small : (n : ℕ) → n ≤ 5 → n % 256 ≡ n
+small n h = omega arith
+
+no-fifo : (fifo : Bool) (n : ℕ) → n ≤ mostOf fifo 2 → waveformNumber (waveformFrom (lowByte n)) ≡ 5 → fifo ≡ true
+unfolding mostOf
+no-fifo true n h e = refl
+no-fifo false n h e =
+    let five : n ≤ 5 = omega arith in
+    let q : n ≡ 5 = sym (ap (λ (k : ℕ). waveformNumber (waveformFrom k)) (small n five) ∙ wave-number n five) ∙ e in
+    absurd (omega arith)
+
+pub taken-accepted : (version : SguVersion) (ns : List ℕ) (length : ℕ) → Good (has3ws8pna version) ns → AcceptedChannel (channelFrom (at ns)) version length
+unfolding mostOf channelFrom acceptsOscillator acceptsStream
+taken-accepted version ns length g =
+    let target : at ns 6 ≤ 7 = g .within 6 in
+    let mode : at ns 7 ≤ 1 = g .within 7 in
+    let start : at ns 10 ≤ 16777215 = g .within 10 in
+    let end : at ns 11 ≤ 16777215 = g .within 11 in
+    let again : at ns 12 ≤ 16777215 = g .within 12 in
+    let control : at ns 14 ≤ 7 = g .within 14 in
+    let old : at ns 17 ≤ 34359738367 = g .within 17 in
+    let slew : at ns 20 ≤ 65280 = g .within 20 in
+    let hold : at ns 22 ≤ 65535 = g .within 22 in
+    let sub : at ns 23 ≤ 3 = g .within 23 in
+    let count : at ns 281 ≤ fifoCapacity = g .within 281 in
+    record {
+      registers = record { target = omega (arith, target); mode = omega (arith, mode); fifo = no-fifo (has3ws8pna version) (at ns 2) (g .within 2) };
+      pcm = record { sampleControl = omega (arith, control); start = omega (arith, start); end = omega (arith, end); again = omega (arith, again) };
+      oscillator = together _ _ (le-leb (at ns 20 % 65536) 65280 (omega (arith, slew))) (lt-ltb (at ns 17) (2 ^ 35) (omega (arith, old)));
+      fifo = record { full = count; first = omega arith; tick = omega (arith, sub); frames = omega (arith, hold) };
+      stream = refl;
+    }
+
+-- ---- and it fits its types
+samples-fit : (l : List ℕ) (i : ℕ) → SFits w16 (getD (map sampleOfNumber l) i (pos 0))
+samples-fit [] i = fit w16 (pos 0) (omega arith) (omega arith)
+samples-fit (n ∷ l) zero = sample-fits n
+samples-fit (n ∷ l) (suc i) = samples-fit l i
+
+bytes-fit : (l : List ℕ) (i : ℕ) → getD (map lowByte l) i 0 < 256
+bytes-fit [] i = omega arith
+bytes-fit (n ∷ l) zero = omega arith
+bytes-fit (n ∷ l) (suc i) = bytes-fit l i
+
+taken-whole : (version : SguVersion) (ns : List ℕ) → Good (has3ws8pna version) ns → Whole version (channelFrom (at ns)) (tableOf (at ns)) (queuedSamples (at ns))
+unfolding mostOf channelFrom tableOf queuedSamples
+taken-whole version ns g =
+    let a = taken-accepted version ns 0 g in
+    let phase : at ns 16 ≤ 18446744073709551615 = g .within 16 in
+    record {
+      registers = record { frequency = omega arith; volume = omega arith; panpot = omega arith; param1 = omega arith; param2 = omega arith };
+      accepted = a .registers;
+      pcm = record { control = omega arith };
+      addresses = a .pcm;
+      oscillator = record { phase = omega (arith, phase); lfsr = omega arith; last = sample-fits (at ns 19) };
+      slew = accepted-oscillator (channelFrom (at ns) .oscillator) (a .oscillator);
+      fifo = record { sample = sample-fits (at ns 21); byte = omega arith };
+      queue = a .fifo;
+      entries = record { each = samples-fit (entries (at ns) 282 (at ns 281)) };
+      bytes = bytes-fit (entries (at ns) 25 256);
+      table = size-read-table (at ns);
+    }
+
+-- ---- what a line's reading gives: one of the eight voices, whole, as many samples as its queue counts; accepted over any RAM, its cache empty and
+-- its queue's head at 0
+pub record Told (version : SguVersion) (v : NumberedVoice) : Type 0 where
+  pub eight : v .number ≤ 7
+  pub whole : Whole version (v .channel) (v .wavetable) (v .samples)
+  pub many : length (v .samples) ≡ v .channel .fifo .count
+  pub accepted : (ram : ℕ) → AcceptedChannel (v .channel) version ram
+  pub cache : v .channel .stream ≡ emptied
+  pub first : v .channel .fifo .head ≡ 0
+
+numbers-told : (version : SguVersion) (ns : List ℕ) → Good (has3ws8pna version) ns → Told version (voiceOf (at ns))
+unfolding mostOf voiceOf channelFrom
+numbers-told version ns g = record { eight = g .within 0; whole = taken-whole version ns g; many = size-samples (at ns); accepted = λ ram. taken-accepted version ns ram g; cache = refl; first = refl }
+
+pub read-told : (version : SguVersion) (text : List ℕ) (v : NumberedVoice) → readVoice version text ≡ voice v → Told version v
+unfolding readVoice
+read-told version text v e = go (readLine (has3ws8pna version) text) refl e
+  where
+    go : (r : ReadLine) → readLine (has3ws8pna version) text ≡ r → voiceFrom r ≡ voice v → Told version v
+    go (line ns) q f = let w : voiceOf (at ns) ≡ v = cc in subst (Told version) w (numbers-told version ns (read-good (has3ws8pna version) text ns q))
+    go (lines.malformed ns field) q f = absurd (let z : _≡_ {A = ℕ} 0 1 = cc in omega arith)

@@ -1,0 +1,47 @@
+use mathlib.Core.Path.{sym, ap, _∙_}
+use Rattle.session_lines.specs.Lines.{toldOf}
+use Rattle.session_lines.proofs.Whole.{read-yes, read-no, told-yes}
+use borrow.Author.Needs.{needs}
+use Rattle.session_lines.proofs.reading.check_voice.Statement.{statement}
+use Rattle.session_lines.proofs.reading.check_voice.Tie as tie
+
+has-3ws8pna-requires : tie.Need-has-3ws8pna-requires
+has-3ws8pna-requires c κs = search needs
+
+slice-aggregate-read-line : tie.Need-slice-aggregate-read-line
+slice-aggregate-read-line c = search needs
+
+read-line-requires : tie.Need-read-line-requires
+read-line-requires c κs = search needs
+
+enum-told : tie.Need-enum-told
+enum-told c = search needs
+
+slice-aggregate-number-at : tie.Need-slice-aggregate-number-at
+slice-aggregate-number-at c = search needs
+
+number-at-requires : tie.Need-number-at-requires
+number-at-requires c κs = search needs
+
+enum-known-fields : tie.Need-enum-known-fields
+enum-known-fields c = search needs
+
+returns : tie.Need-returns
+returns c = told-yes _ _ _ (read-yes _ _ _ _ _ (c .before .before .before .before .before .before .before .has-3ws8pna .ensures) (sym (c .before .before .enum-told .given .1) ∙ c .before .before .before .before .before .read-line .ensures .0) (c .before .before .before .before .before .read-line .ensures .1)) (c .number-at .ensures)
+
+returns-2 : tie.Need-returns-2
+returns-2 c = sym (ap toldOf (read-no _ _ _ _ (c .before .before .before .before .before .before .has-3ws8pna .ensures) (sym (c .before .fields .given .1) ∙ c .before .before .before .before .read-line .ensures .0)))
+
+pub check-voice-spec : {M : Type 1} → statement M
+check-voice-spec =
+    tie.close
+    (tie.spec
+    has-3ws8pna-requires
+    slice-aggregate-read-line
+    read-line-requires
+    enum-told
+    slice-aggregate-number-at
+    number-at-requires
+    enum-known-fields
+    returns
+    returns-2)
