@@ -4,3 +4,5 @@ pub mod Sounds
 pub mod Made
 pub mod Lines
 pub mod Every
+pub mod Left
+pub mod Listed

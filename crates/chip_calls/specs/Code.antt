@@ -1,5 +1,8 @@
 -- What the code does at each call of the list, in the words of its contracts.
-use mathlib.Core.List.{[], _∷_}
+use mathlib.Core.Path.{_≡_}
+use mathlib.Core.List.{List, [], _∷_}
+use Prim.Native.Nat.{ℕ}
+use lib.IntN.{ℤ}
 use lib.ListN.{length}
 use Rattle.sides.specs.Sides.{saturating, wrapping}
 use Rattle.s3w2.specs.Fresh.{setVersionCalled, resetCalled, resetRam, resetChannelCalled}
@@ -10,6 +13,9 @@ use Rattle.s3w2.specs.Sound.{generateSampleCalled, clockCalled, clockStems}
 use Rattle.s3w2.specs.Mixing.{mixedCalled, mixedLeft, mixedRight, clockMixedCalled, clockMixedLeft, clockMixedRight}
 use Rattle.session.specs.Heads.{writeHeadAnswer, writeHeadText, readHeadCalled}
 use Rattle.session.specs.Voices.{writeVoiceAnswer, writeVoiceText, readVoiceCalled, readVoiceQueues}
+use Rattle.s3w2.specs.declared.Called.{Called}
+use Rattle.session.specs.declared.LineAnswer.{LineAnswer}
+use Rattle.session.specs.declared.LineCalled.{LineCalled}
 use Rattle.call_lists.specs.Runs.{Outcome}
 use Rattle.call_lists.specs.Calls.{CallAnswer, Call, reset, setVersion, resetChannel, writeRegister, readRegister, peekRegister, writeChannelControl, readChannelControl, writeChannelPcmReg, readChannelPcmReg, writeChannelWavetable, readChannelWavetable, wavetableLength, interpolates, writePcmRam, readPcmRam, generateSample, clock, clockMixed, clockMixedInto, clockMixedIntoI32, writeHead, readHead, writeVoice, readVoice}
 use Rattle.chip_calls.specs.Ties.{Machine, by, sounded, onlyTells, wroteBy, readBy}
@@ -53,3 +59,15 @@ code m (writeHead out) = wroteBy (m .chip) (m .ram) (m .queues) (writeHeadAnswer
 code m (readHead text) = readBy (readHeadCalled (m .chip) text) (m .ram) (m .queues)
 code m (writeVoice ch out) = wroteBy (m .chip) (m .ram) (m .queues) (writeVoiceAnswer (m .chip) (m .queues) ch out) (writeVoiceText (m .chip) (m .queues) ch out)
 code m (readVoice text) = readBy (readVoiceCalled (m .chip) (m .queues) text) (m .ram) (readVoiceQueues (m .chip) (m .queues) text)
+
+-- ---- what a function left is what `code` says of its call: the chip and its answer, the RAM, the queue buffer, the lent stems or sides. The values
+-- ahead of the volume, which no function gives, are those that `code` reads off the definitions.
+abbrev pub AsCode : Machine → Call → Called → List ℕ → List ℤ → List (List ℤ) → Type 0
+AsCode m c called ram queues sides = sounded called ram queues sides (code m c .answer .values) ≡ code m c
+
+-- the same of a line written to a lent text, and of a line read
+abbrev pub AsWritten : Machine → Call → LineAnswer → List ℕ → Type 0
+AsWritten m c answer text = wroteBy (m .chip) (m .ram) (m .queues) answer text ≡ code m c
+
+abbrev pub AsRead : Machine → Call → LineCalled → List ℕ → List ℤ → Type 0
+AsRead m c called ram queues = readBy called ram queues ≡ code m c

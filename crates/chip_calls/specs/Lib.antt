@@ -1,3 +1,4 @@
 pub mod Ties
 pub mod Values
 pub mod Code
+pub mod Lists

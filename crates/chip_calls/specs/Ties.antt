@@ -52,8 +52,11 @@ pub record Machine : Type 0 where
   pub ram : List ℕ
   pub queues : List ℤ
 
+abbrev pub machine : Chip → List ℕ → List ℤ → Machine
+machine chip ram queues = record { chip = chip; ram = ram; queues = queues }
+
 abbrev pub left : Chip → List ℕ → List ℤ → list.CallAnswer → Outcome Machine list.CallAnswer
-left chip ram queues answer = record { next = record { chip = chip; ram = ram; queues = queues }; answer = answer }
+left chip ram queues answer = record { next = machine chip ram queues; answer = answer }
 
 -- the list's reply that an answer is
 abbrev pub replyOf : Answer → Reply

@@ -1,0 +1,55 @@
+// Ticks and frames.
+ghost use mathlib.Core.List.{[], _∷_};
+ghost use Rattle.call_lists.specs.Calls as list;
+ghost use Rattle.chip_calls.specs.Ties.{machine};
+ghost use Rattle.chip_calls.specs.Code.{AsCode};
+use s3w2::Called;
+use s3w2::Chip;
+
+pub fn generate_sample(chip: Chip, ram: &[u8], queues: &mut [i16], ch: usize) -> Called
+    ensures code { λ r. ⌜ AsCode (machine chip (now (ram .entry)) (now (queues .entry))) (list.generateSample ch) r (now (ram .entry)) (now (queues .exit)) [] ⌝ }
+{
+    chip.generate_sample(ram, queues, ch)
+}
+
+pub fn clock(chip: Chip, ram: &[u8], queues: &mut [i16], frames: usize, stems: &mut [i16]) -> Called
+    ensures code { λ r. ⌜ AsCode (machine chip (now (ram .entry)) (now (queues .entry))) (list.clock frames (now (stems .entry))) r (now (ram .entry)) (now (queues .exit)) (now (stems .exit) ∷ []) ⌝ }
+{
+    chip.clock(ram, queues, frames, stems)
+}
+
+pub fn clock_mixed(
+    chip: Chip,
+    ram: &[u8],
+    queues: &mut [i16],
+    left: &mut [i16],
+    right: &mut [i16],
+) -> Called
+    ensures code { λ r. ⌜ AsCode (machine chip (now (ram .entry)) (now (queues .entry))) (list.clockMixed (now (left .entry)) (now (right .entry))) r (now (ram .entry)) (now (queues .exit)) (now (left .exit) ∷ now (right .exit) ∷ []) ⌝ }
+{
+    chip.clock_mixed(ram, queues, left, right)
+}
+
+pub fn clock_mixed_into(
+    chip: Chip,
+    ram: &[u8],
+    queues: &mut [i16],
+    left: &mut [i16],
+    right: &mut [i16],
+) -> Called
+    ensures code { λ r. ⌜ AsCode (machine chip (now (ram .entry)) (now (queues .entry))) (list.clockMixedInto (now (left .entry)) (now (right .entry))) r (now (ram .entry)) (now (queues .exit)) (now (left .exit) ∷ now (right .exit) ∷ []) ⌝ }
+{
+    chip.clock_mixed_into(ram, queues, left, right)
+}
+
+pub fn clock_mixed_into_i32(
+    chip: Chip,
+    ram: &[u8],
+    queues: &mut [i16],
+    left: &mut [i32],
+    right: &mut [i32],
+) -> Called
+    ensures code { λ r. ⌜ AsCode (machine chip (now (ram .entry)) (now (queues .entry))) (list.clockMixedIntoI32 (now (left .entry)) (now (right .entry))) r (now (ram .entry)) (now (queues .exit)) (now (left .exit) ∷ now (right .exit) ∷ []) ⌝ }
+{
+    chip.clock_mixed_into_i32(ram, queues, left, right)
+}

@@ -1,0 +1,133 @@
+// Registers, channels, RAM and versions.
+ghost use mathlib.Core.List.{[]};
+ghost use Rattle.s3w2.specs.Answers.{answered};
+ghost use Rattle.call_lists.specs.Calls as list;
+ghost use Rattle.chip_calls.specs.Ties.{machine};
+ghost use Rattle.chip_calls.specs.Code.{AsCode};
+use s3w2::Answer;
+use s3w2::Called;
+use s3w2::Chip;
+use version::SguVersion;
+
+pub fn reset(chip: Chip, ram: &mut [u8], queues: &[i16]) -> Called
+    ensures code { λ r. ⌜ AsCode (machine chip (now (ram .entry)) (now (queues .entry))) list.reset r (now (ram .exit)) (now (queues .entry)) [] ⌝ }
+{
+    chip.reset(ram)
+}
+
+pub fn set_version(chip: Chip, ram: &[u8], queues: &[i16], version: SguVersion) -> Called
+    ensures code { λ r. ⌜ AsCode (machine chip (now (ram .entry)) (now (queues .entry))) (list.setVersion version) r (now (ram .entry)) (now (queues .entry)) [] ⌝ }
+{
+    chip.set_version(version)
+}
+
+pub fn reset_channel(chip: Chip, ram: &[u8], queues: &[i16], ch: usize) -> Called
+    ensures code { λ r. ⌜ AsCode (machine chip (now (ram .entry)) (now (queues .entry))) (list.resetChannel ch) r (now (ram .entry)) (now (queues .entry)) [] ⌝ }
+{
+    chip.reset_channel(ch)
+}
+
+pub fn write_register(chip: Chip, ram: &[u8], queues: &mut [i16], address: u32, value: u8) -> Called
+    ensures code { λ r. ⌜ AsCode (machine chip (now (ram .entry)) (now (queues .entry))) (list.writeRegister address value) r (now (ram .entry)) (now (queues .exit)) [] ⌝ }
+{
+    chip.write_register(queues, address, value)
+}
+
+pub fn read_register(chip: Chip, ram: &[u8], queues: &[i16], address: u32) -> Called
+    ensures code { λ r. ⌜ AsCode (machine chip (now (ram .entry)) (now (queues .entry))) (list.readRegister address) r (now (ram .entry)) (now (queues .entry)) [] ⌝ }
+{
+    chip.read_register(address)
+}
+
+pub fn peek_register(chip: Chip, ram: &[u8], queues: &[i16], address: u32) -> Answer
+    ensures code { λ r. ⌜ AsCode (machine chip (now (ram .entry)) (now (queues .entry))) (list.peekRegister address) (answered chip r) (now (ram .entry)) (now (queues .entry)) [] ⌝ }
+{
+    chip.peek_register(address)
+}
+
+pub fn write_channel_control(
+    chip: Chip,
+    ram: &[u8],
+    queues: &mut [i16],
+    ch: usize,
+    offset: u8,
+    value: u8,
+) -> Called
+    ensures code { λ r. ⌜ AsCode (machine chip (now (ram .entry)) (now (queues .entry))) (list.writeChannelControl ch offset value) r (now (ram .entry)) (now (queues .exit)) [] ⌝ }
+{
+    chip.write_channel_control(queues, ch, offset, value)
+}
+
+pub fn read_channel_control(chip: Chip, ram: &[u8], queues: &[i16], ch: usize, offset: u8) -> Called
+    ensures code { λ r. ⌜ AsCode (machine chip (now (ram .entry)) (now (queues .entry))) (list.readChannelControl ch offset) r (now (ram .entry)) (now (queues .entry)) [] ⌝ }
+{
+    chip.read_channel_control(ch, offset)
+}
+
+pub fn write_channel_pcm_reg(
+    chip: Chip,
+    ram: &[u8],
+    queues: &[i16],
+    ch: usize,
+    offset: u8,
+    value: u8,
+) -> Called
+    ensures code { λ r. ⌜ AsCode (machine chip (now (ram .entry)) (now (queues .entry))) (list.writeChannelPcmReg ch offset value) r (now (ram .entry)) (now (queues .entry)) [] ⌝ }
+{
+    chip.write_channel_pcm_reg(ch, offset, value)
+}
+
+pub fn read_channel_pcm_reg(chip: Chip, ram: &[u8], queues: &[i16], ch: usize, offset: u8) -> Answer
+    ensures code { λ r. ⌜ AsCode (machine chip (now (ram .entry)) (now (queues .entry))) (list.readChannelPcmReg ch offset) (answered chip r) (now (ram .entry)) (now (queues .entry)) [] ⌝ }
+{
+    chip.read_channel_pcm_reg(ch, offset)
+}
+
+pub fn write_channel_wavetable(
+    chip: Chip,
+    ram: &[u8],
+    queues: &[i16],
+    ch: usize,
+    offset: u8,
+    value: u8,
+) -> Called
+    ensures code { λ r. ⌜ AsCode (machine chip (now (ram .entry)) (now (queues .entry))) (list.writeChannelWavetable ch offset value) r (now (ram .entry)) (now (queues .entry)) [] ⌝ }
+{
+    chip.write_channel_wavetable(ch, offset, value)
+}
+
+pub fn read_channel_wavetable(
+    chip: Chip,
+    ram: &[u8],
+    queues: &[i16],
+    ch: usize,
+    offset: u8,
+) -> Answer
+    ensures code { λ r. ⌜ AsCode (machine chip (now (ram .entry)) (now (queues .entry))) (list.readChannelWavetable ch offset) (answered chip r) (now (ram .entry)) (now (queues .entry)) [] ⌝ }
+{
+    chip.read_channel_wavetable(ch, offset)
+}
+
+pub fn wavetable_length(chip: Chip, ram: &[u8], queues: &[i16], ch: usize) -> Answer
+    ensures code { λ r. ⌜ AsCode (machine chip (now (ram .entry)) (now (queues .entry))) (list.wavetableLength ch) (answered chip r) (now (ram .entry)) (now (queues .entry)) [] ⌝ }
+{
+    chip.wavetable_length(ch)
+}
+
+pub fn interpolates(chip: Chip, ram: &[u8], queues: &[i16], ch: usize) -> Answer
+    ensures code { λ r. ⌜ AsCode (machine chip (now (ram .entry)) (now (queues .entry))) (list.interpolates ch) (answered chip r) (now (ram .entry)) (now (queues .entry)) [] ⌝ }
+{
+    chip.interpolates(ch)
+}
+
+pub fn write_pcm_ram(chip: Chip, ram: &mut [u8], queues: &[i16], address: u32, value: u8) -> Called
+    ensures code { λ r. ⌜ AsCode (machine chip (now (ram .entry)) (now (queues .entry))) (list.writePcmRam address value) r (now (ram .exit)) (now (queues .entry)) [] ⌝ }
+{
+    chip.write_pcm_ram(ram, address, value)
+}
+
+pub fn read_pcm_ram(chip: Chip, ram: &[u8], queues: &[i16], address: u32) -> Answer
+    ensures code { λ r. ⌜ AsCode (machine chip (now (ram .entry)) (now (queues .entry))) (list.readPcmRam address) (answered chip r) (now (ram .entry)) (now (queues .entry)) [] ⌝ }
+{
+    chip.read_pcm_ram(ram, address)
+}
