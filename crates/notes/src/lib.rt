@@ -1,0 +1,25 @@
+// Notes by number: the frequency register's value of a note and semitones.
+ghost use mathlib.Core.Path.{_≡_};
+ghost use Rattle.notes.specs.Pitches.{sumAt, NearestPitch};
+
+mod table;
+
+// How many sums of note and semitones there are: -128 to 382.
+pub const SUMS: usize = 511;
+
+// The place of the sum of note and semitones in the table.
+fn sum_at(note: u8, semitones: i8) -> usize
+    ensures { λ r. ⌜ r ≡ sumAt note semitones ⌝ }
+{
+    ((note as i32) + 128 + (semitones as i32)) as usize
+}
+
+// The frequency of a note, semitones up or down: 440 at note 69, twice that 12 semitones above.
+#[no_mangle]
+pub extern "C" fn frequency(note: u8, semitones: i8) -> u16
+    ensures { λ r. ⌜ NearestPitch (sumAt note semitones) r ⌝ }
+{
+    let all = table::frequencies();
+    let at = sum_at(note, semitones);
+    all[at]
+}
