@@ -2,8 +2,9 @@
 use mathlib.Core.Path.{_≡_, sym}
 use mathlib.Core.Bool.{Bool, true, false, cond, _&&_}
 use mathlib.Core.List.{List, [], _∷_}
-use Prim.Native.Nat.{ℕ, zero, suc, _+_, _-_, _*_, _<_}
-use native.Mathlib.Nat.{add-zero, zero-add, add-suc, suc-add, le-of-suc-le-suc, not-suc-le-zero}
+use Prim.Native.Nat.{ℕ, zero, suc, _+_, _-_, _*_, _≤_, _<_}
+use native.Mathlib.Nat.{add-zero, add-suc, suc-add, le-of-suc-le-suc, not-suc-le-zero}
+use native.Mathlib.Omega.{arith}
 use lib.Dec.{ltb, leb}
 use lib.ListN.{length, getD}
 use borrow.Author.Tests.{leb-true, ltb-true, lt-ltb}
@@ -34,6 +35,6 @@ from [] i e k h = absurd (not-suc-le-zero h)
 from (x ∷ xs) i e zero h = rw (add-zero i) (both (isNearest i x) (allNearest (suc i) xs) e .0)
 from (x ∷ xs) i e (suc k) h = rw (add-suc i k, ← suc-add i k) (from xs (suc i) (both (isNearest i x) (allNearest (suc i) xs) e .1) k (le-of-suc-le-suc h))
 
--- THE LAW: where the test holds of the whole table, each entry is nearest to its pitch
-pub nearest : (xs : List ℕ) → allNearest 0 xs ≡ true → (at : ℕ) → at < length xs → NearestPitch at (getD xs at 0)
-nearest xs e at h = rule at (getD xs at 0) (rw zero-add at (from xs 0 e at h))
+-- THE LAW: where the test holds of a whole table, counted from i, each entry is nearest to its pitch
+pub nearest : (i : ℕ) (xs : List ℕ) → allNearest i xs ≡ true → (at : ℕ) → i ≤ at → at - i < length xs → NearestPitch at (getD xs (at - i) 0)
+nearest i xs e at g h = rule at (getD xs (at - i) 0) (rw (let q : i + (at - i) ≡ at = omega arith in q) at (from xs i e (at - i) h))

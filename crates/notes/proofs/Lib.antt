@@ -1,4 +1,5 @@
 pub mod Sums
 pub mod Entries
+pub mod Outside
 pub mod Only
 pub mod Halfway

@@ -19,10 +19,10 @@ module _ (note : ℕ) (semitones : ℤ) (n : note < 256) (s : SFits w8 semitones
   unfolding sumAt
   place-is-sum = z-eq (pos (sumAt note semitones)) (liftedSum note semitones) (omega (arith, abs-is (liftedSum note semitones), not-negative))
 
-  pub in-table : sumAt note semitones < sums
+  pub below-sums : sumAt note semitones < sums
   unfolding sumAt
-  in-table = omega (arith, z-add (pos (note + belowZero)) semitones, one-zero (liftedSum note semitones), abs-is (liftedSum note semitones), fit-up s, fit-down s)
+  below-sums = omega (arith, z-add (pos (note + belowZero)) semitones, one-zero (liftedSum note semitones), abs-is (liftedSum note semitones), fit-up s, fit-down s)
 
   pub lifted-fits : SFits w32 (liftedSum note semitones)
   unfolding sumAt
-  lifted-fits = fit-abs w32 (liftedSum note semitones) 510 (omega (arith, in-table)) (omega arith)
+  lifted-fits = fit-abs w32 (liftedSum note semitones) 510 (omega (arith, below-sums)) (omega arith)

@@ -7,7 +7,7 @@ mod table;
 // How many sums of note and semitones there are: -128 to 382.
 pub const SUMS: usize = 511;
 
-// The place of the sum of note and semitones in the table.
+// The place of the sum of note and semitones among all sums.
 fn sum_at(note: u8, semitones: i8) -> usize
     ensures { λ r. ⌜ r ≡ sumAt note semitones ⌝ }
 {
@@ -19,7 +19,14 @@ fn sum_at(note: u8, semitones: i8) -> usize
 pub extern "C" fn frequency(note: u8, semitones: i8) -> u16
     ensures { λ r. ⌜ NearestPitch (sumAt note semitones) r ⌝ }
 {
-    let all = table::frequencies();
     let at = sum_at(note, semitones);
-    all[at]
+    if at < table::FIRST {
+        return 0;
+    }
+    let place = at - table::FIRST;
+    if table::KEPT <= place {
+        return 65535;
+    }
+    let kept = table::frequencies();
+    kept[place]
 }

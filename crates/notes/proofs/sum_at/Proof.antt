@@ -9,7 +9,7 @@ use mir.Facts.{toZ-pos}
 use Rattle.num.proofs.Integers.{back, is-nonNeg}
 use Rattle.num.proofs.Fit.{widen}
 use Rattle.notes.specs.Pitches.{belowZero, liftedSum, sumAt}
-use Rattle.notes.proofs.Sums.{not-negative, in-table, lifted-fits}
+use Rattle.notes.proofs.Sums.{not-negative, below-sums, lifted-fits}
 use Rattle.notes.proofs.sum_at.Statement.{statement}
 use Rattle.notes.proofs.sum_at.Tie as tie
 
@@ -46,7 +46,7 @@ cast-result-3 : tie.Need-cast-result-3
 unfolding sumAt
 cast-result-3 c =
     let f = c .fits in
-    rw (is c) (is-nonNeg (liftedSum (c .args .note) (c .args .semitones)) (not-negative _ _ (f .note .fits) (f .semitones)), record { fits = omega (arith, in-table _ _ (f .note .fits) (f .semitones)) })
+    rw (is c) (is-nonNeg (liftedSum (c .args .note) (c .args .semitones)) (not-negative _ _ (f .note .fits) (f .semitones)), record { fits = omega (arith, below-sums _ _ (f .note .fits) (f .semitones)) })
 
 returns : tie.Need-returns
 unfolding sumAt
