@@ -12,7 +12,7 @@ use Rattle.sizes.specs.Sizes.{fifoCapacity, numChannels, queueBuffer}
 use Rattle.num.specs.Lists.{part}
 use Rattle.tone.specs.Pcm.{isRamLength}
 use Rattle.version.specs.declared.SguVersion.{SguVersion}
-use Rattle.registers.specs.Queue.{FitEntries}
+use Rattle.registers.specs.PlainQueue.{FitEntries}
 use Rattle.voices.specs.Core.{freshCore}
 use Rattle.voices.specs.Accepted.{acceptsCore}
 use Rattle.voices.specs.Own.{Voice, queueAt}

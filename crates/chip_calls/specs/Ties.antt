@@ -7,7 +7,7 @@ use lib.IntN.{ℤ}
 use lib.ListN.{length}
 use Rattle.sizes.specs.Sizes.{numChannels, queueBuffer}
 use Rattle.tone.specs.Pcm.{isRamLength}
-use Rattle.registers.specs.Queue.{FitEntries}
+use Rattle.registers.specs.PlainQueue.{FitEntries}
 use Rattle.voices.specs.Core.{channelAt}
 use Rattle.voices.specs.Accepted.{SizedCore}
 use Rattle.voices.specs.declared.Core.{Core}

@@ -16,7 +16,8 @@ use Rattle.tone.proofs.Ranges.{last-fits}
 use Rattle.tone.proofs.Sides.{ticks-wider}
 use Rattle.tone.proofs.Streams as streams
 use Rattle.version.specs.declared.SguVersion.{SguVersion}
-use Rattle.registers.specs.Queue.{AcceptedFifo, FitFifo, FitEntries}
+use Rattle.registers.specs.Queue.{AcceptedFifo, FitFifo}
+use Rattle.registers.specs.PlainQueue.{FitEntries}
 use Rattle.registers.proofs.Accepted.{tick-accepted}
 use Rattle.registers.specs.Waveforms.{isSqv4}
 use Rattle.stream.specs.Accepted.{acceptsCache}

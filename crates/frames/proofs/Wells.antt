@@ -13,7 +13,7 @@ use Rattle.sizes.specs.Sizes.{fifoCapacity, numChannels}
 use Rattle.num.specs.Lists.{part}
 use Rattle.version.specs.declared.SguVersion.{SguVersion}
 use Rattle.registers.specs.Control.{targetChannel}
-use Rattle.registers.specs.Queue.{FitEntries}
+use Rattle.registers.specs.PlainQueue.{FitEntries}
 use Rattle.ticks.specs.Mix.{silence, Room}
 use Rattle.ticks.specs.declared.Sides.{Sides}
 use Rattle.voice.specs.Sounding.{kindOf, playOf, servedOf, streamSoundOf, afterStream}

@@ -7,7 +7,7 @@ use lib.ListN.{length, replicate, length-replicate}
 use Rattle.sizes.specs.Sizes.{queueBuffer, wavetablesSize}
 use Rattle.tone.specs.Pcm.{isRamLength}
 use Rattle.version.specs.declared.SguVersion.the-variants.{«V3_1»}
-use Rattle.registers.specs.Queue.{FitEntries}
+use Rattle.registers.specs.PlainQueue.{FitEntries}
 use Rattle.voices.specs.Core.{freshCore}
 use Rattle.voices.proofs.Voices.{fresh-sized}
 use Rattle.voices.proofs.Accepting.{fresh-accepted, core-accepted}

@@ -10,7 +10,7 @@ use Rattle.sizes.specs.Sizes.{fifoCapacity, numChannels}
 use Rattle.version.specs.declared.SguVersion.{SguVersion}
 use Rattle.registers.specs.Control.{AcceptedRegisters, FitRegisters}
 use Rattle.registers.specs.Pcm.{AcceptedPcm, FitPcm}
-use Rattle.registers.specs.Queue.{FitEntries}
+use Rattle.registers.specs.PlainQueue.{FitEntries}
 use Rattle.ticks.specs.Oscillators.{acceptsOscillator, FitOscillator}
 use Rattle.plain_chip.specs.Voices.{PlainVoice}
 use Rattle.plain_chip.specs.Chips.{ModelChip}

@@ -18,7 +18,8 @@ use Rattle.num.proofs.Lists.{each-set}
 use Rattle.registers.specs.Waveforms.{waveformFrom, waveformNumber, modulationFrom, modulationNumber}
 use Rattle.registers.specs.Control.{setWaveform, writeRegisters, readRegisters, FitRegisters}
 use Rattle.registers.specs.Pcm.{writePcm, readPcm, FitPcm}
-use Rattle.registers.specs.Queue.{place, pushed, pushedEntries, popped, advanced, ticked, FitFifo, FitEntries}
+use Rattle.registers.specs.Queue.{place, pushed, pushedEntries, popped, advanced, ticked, FitFifo}
+use Rattle.registers.specs.PlainQueue.{FitEntries}
 use Rattle.registers.specs.declared.WaveformType.{WaveformType}
 use Rattle.registers.specs.declared.WaveformType.the-variants.{Wavetable, Pcm, Noise, DmaPcm, Sqv4, FifoDac}
 use Rattle.registers.specs.declared.ModulationType.{ModulationType}

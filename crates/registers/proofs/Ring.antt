@@ -13,8 +13,8 @@ use lib.Seq.{getD-set-same, getD-set-other, drop-cons}
 use borrow.Author.Tests.{ltb-true, ne-eqb}
 use Rattle.sizes.specs.Sizes.{fifoCapacity}
 use Rattle.num.proofs.Choice.{cond-by}
-use Rattle.registers.specs.Queue.{place, setCount, setHold, setSub, pushed, pushedEntries, firstTaken, popped, advanced, ticked, queued}
-use Rattle.registers.specs.PlainQueue.{PlainQueue, plainQueueOf, plainPushed, plainPopped, plainHold, plainSub, plainAdvanced, plainTicked}
+use Rattle.registers.specs.Queue.{place, setCount, setHold, setSub, pushed, pushedEntries, firstTaken, popped, advanced, ticked, queued, plainQueueOf}
+use Rattle.registers.specs.PlainQueue.{PlainQueue, plainPushed, plainPopped, plainHold, plainSub, plainAdvanced, plainTicked}
 use Rattle.registers.specs.declared.Fifo.{Fifo}
 
 -- the place after n more, by masks

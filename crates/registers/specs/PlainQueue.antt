@@ -1,13 +1,13 @@
--- The queue as a plain list, oldest first, with no head: what a ring and its entries stand for.
+-- The queue as a plain list, oldest first, with no head.
 use mathlib.Core.Bool.{cond}
 use mathlib.Core.List.{List, [], _∷_, _++_}
 use Prim.Native.Nat.{ℕ, _+_, _-_, _%_}
 use lib.Dec.{eqb, ltb}
-use lib.IntN.{ℤ}
-use lib.ListN.{length}
+use lib.IntN.{ℤ, pos}
+use lib.ListN.{length, getD}
+use mir.Syntax.{w16}
+use mir.Val.{SFits}
 use Rattle.sizes.specs.Sizes.{fifoCapacity}
-use Rattle.registers.specs.Queue.{queued}
-use Rattle.registers.specs.declared.Fifo.{Fifo}
 
 pub record PlainQueue : Type 0 where
   pub samples : List ℤ
@@ -15,9 +15,6 @@ pub record PlainQueue : Type 0 where
   pub hold : ℕ
   pub sub : ℕ
   pub latch : ℕ
-
-abbrev pub plainQueueOf : List ℤ → Fifo → PlainQueue
-plainQueueOf q f = record { samples = queued q (f .head) (f .count); held = f .held; hold = f .hold; sub = f .sub; latch = f .latch }
 
 -- a push goes to the end, unless the list holds 2,048
 abbrev pub append : List ℤ → ℤ → List ℤ
@@ -45,3 +42,7 @@ plainAdvanced p frequency = cond (eqb (p .hold) 0) (plainPopped p frequency) (pl
 
 unfoldable pub plainTicked : PlainQueue → ℕ → PlainQueue
 plainTicked p frequency = plainSub (cond (eqb (p .sub) 0) (plainAdvanced p frequency) p) ((p .sub + 1) % 4)
+
+-- ---- the ranges of the samples: entries of a ring, or of the list
+pub record FitEntries (q : List ℤ) : Type 0 where
+  pub each : (i : ℕ) → SFits w16 (getD q i (pos 0))

@@ -8,6 +8,7 @@ use lib.ListN.{set, getD}
 use mir.Syntax.{w16}
 use mir.Val.{SFits}
 use Rattle.sizes.specs.Sizes.{fifoCapacity}
+use Rattle.registers.specs.PlainQueue.{PlainQueue}
 use Rattle.registers.specs.declared.Fifo.{Fifo}
 
 abbrev pub defaultFifo : Fifo
@@ -59,6 +60,10 @@ unfoldable pub queued : List ℤ → ℕ → ℕ → List ℤ
 queued q head zero = []
 queued q head (suc n) = getD q (head % fifoCapacity) (pos 0) ∷ queued q (head + 1) n
 
+-- the plain queue that a ring and its entries stand for
+abbrev pub plainQueueOf : List ℤ → Fifo → PlainQueue
+plainQueueOf q f = record { samples = queued q (f .head) (f .count); held = f .held; hold = f .hold; sub = f .sub; latch = f .latch }
+
 -- ---- accepted values
 unfoldable pub acceptsFifo : Fifo → Bool
 acceptsFifo f = leb (f .count) fifoCapacity && (ltb (f .head) fifoCapacity && (leb (f .sub) 3 && leb (f .hold) 65535))
@@ -69,10 +74,7 @@ pub record AcceptedFifo (f : Fifo) : Type 0 where
   pub tick : f .sub ≤ 3
   pub frames : f .hold ≤ 65535
 
--- ---- the ranges of the other fields, and of the entries
+-- ---- the ranges of the other fields
 pub record FitFifo (f : Fifo) : Type 0 where
   pub sample : SFits w16 (f .held)
   pub byte : f .latch < 2 ^ 8
-
-pub record FitEntries (q : List ℤ) : Type 0 where
-  pub each : (i : ℕ) → SFits w16 (getD q i (pos 0))

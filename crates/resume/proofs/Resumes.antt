@@ -8,7 +8,7 @@ use lib.ListN.{length, replicate}
 use Rattle.sizes.specs.Sizes.{queueBuffer}
 use Rattle.tone.specs.Pcm.{isRamLength}
 use Rattle.version.specs.declared.SguVersion.{SguVersion}
-use Rattle.registers.specs.Queue.{FitEntries}
+use Rattle.registers.specs.PlainQueue.{FitEntries}
 use Rattle.s3w2.specs.declared.Answer.the-variants.{Done, RamLength}
 use Rattle.s3w2.specs.Answers.{isDone}
 use Rattle.s3w2.specs.Chips.{freshChip}

@@ -11,7 +11,7 @@ use Rattle.num.specs.Integers.{up, down}
 use Rattle.tone.specs.Sides.{Ticks}
 use Rattle.tone.proofs.Sides.{ticks-none, ticks-wider}
 use Rattle.version.specs.declared.SguVersion.{SguVersion}
-use Rattle.registers.specs.Queue.{FitEntries}
+use Rattle.registers.specs.PlainQueue.{FitEntries}
 use Rattle.ticks.specs.Mix.{silence}
 use Rattle.ticks.specs.declared.Sides.{Sides}
 use Rattle.ticks.proofs.Sums as sums

@@ -15,7 +15,7 @@ use Rattle.num.specs.Lists.{part}
 use Rattle.num.proofs.Choice.{cond-by, never}
 use Rattle.num.proofs.Integers.{fit}
 use Rattle.version.specs.declared.SguVersion.{SguVersion}
-use Rattle.registers.specs.Queue.{FitEntries}
+use Rattle.registers.specs.PlainQueue.{FitEntries}
 use Rattle.voices.specs.Accepted.{SizedCore, AcceptedCore}
 use Rattle.voices.specs.Core.{freshCore, channelAt, resetChannelAt, setCoreVersion}
 use Rattle.voices.specs.Writes.{writeChannelControl, writeChannelPcmReg, writeWavetable, writeRegister, afterRamWrite}

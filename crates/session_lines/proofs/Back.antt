@@ -17,7 +17,8 @@ use Rattle.line_fields.proofs.Bounds.{bits-small}
 use Rattle.registers.specs.Waveforms.{waveformFrom, waveformNumber, modulationFrom, modulationNumber}
 use Rattle.registers.specs.Control.{AcceptedRegisters, FitRegisters}
 use Rattle.registers.specs.Pcm.{AcceptedPcm, FitPcm}
-use Rattle.registers.specs.Queue.{AcceptedFifo, FitFifo, FitEntries}
+use Rattle.registers.specs.Queue.{AcceptedFifo, FitFifo}
+use Rattle.registers.specs.PlainQueue.{FitEntries}
 use Rattle.registers.proofs.Ring.{length-queued}
 use Rattle.registers.specs.declared.WaveformType.{WaveformType}
 use Rattle.registers.specs.declared.WaveformType.the-variants.{Wavetable, Pcm, Noise, DmaPcm, Sqv4, FifoDac}

@@ -15,7 +15,8 @@ use Rattle.line_fields.proofs.Bounds.{bits-small}
 use Rattle.line_fields.proofs.Good.{Within, each-within, both}
 use Rattle.line_fields.proofs.Ranges.{most-on, most-sample}
 use Rattle.registers.specs.Waveforms.{waveformNumber, modulationNumber}
-use Rattle.registers.specs.Queue.{FitEntries, queued}
+use Rattle.registers.specs.Queue.{queued}
+use Rattle.registers.specs.PlainQueue.{FitEntries}
 use Rattle.registers.specs.declared.WaveformType.{WaveformType}
 use Rattle.registers.specs.declared.WaveformType.the-variants.{Wavetable, Pcm, Noise, DmaPcm, Sqv4, FifoDac}
 use Rattle.registers.specs.declared.ModulationType.{ModulationType}

@@ -13,7 +13,8 @@ use Rattle.num.proofs.Choice.{cond-by}
 use Rattle.num.proofs.Integers.{fit}
 use Rattle.version.specs.Versions.{has3ws8pna, hasSampleControl}
 use Rattle.version.specs.declared.SguVersion.{SguVersion}
-use Rattle.registers.specs.Queue.{defaultFifo, FitFifo, FitEntries}
+use Rattle.registers.specs.Queue.{defaultFifo, FitFifo}
+use Rattle.registers.specs.PlainQueue.{FitEntries}
 use Rattle.registers.proofs.Ranges.{write-fits, waveform-fits, write-pcm-fits, pushed-fits, push-entries-fit}
 use Rattle.registers.proofs.Ring.{length-pushed}
 use Rattle.ticks.proofs.Ranges.{default-fits}

@@ -13,7 +13,8 @@ use Rattle.sizes.specs.Sizes.{fifoCapacity}
 use Rattle.num.proofs.Integers.{fit}
 use Rattle.num.proofs.Lists.{each-set}
 use Rattle.version.specs.declared.SguVersion.{SguVersion}
-use Rattle.registers.specs.Queue.{queued, FitEntries}
+use Rattle.registers.specs.Queue.{queued}
+use Rattle.registers.specs.PlainQueue.{FitEntries}
 use Rattle.registers.proofs.Ring.{length-queued, queued-part}
 use Rattle.voice.specs.Accepted.{acceptsStream}
 use Rattle.slots.specs.Slots.{Slot, plainOf, channelWith, slotLoaded}

@@ -15,8 +15,8 @@ use Rattle.tone.proofs.Streams as streams
 use Rattle.version.specs.declared.SguVersion.{SguVersion}
 use Rattle.registers.specs.Waveforms.{isSqv4}
 use Rattle.registers.specs.Pcm.{setActive}
-use Rattle.registers.specs.Queue.{ticked}
-use Rattle.registers.specs.PlainQueue.{PlainQueue, plainQueueOf, plainTicked}
+use Rattle.registers.specs.Queue.{ticked, plainQueueOf}
+use Rattle.registers.specs.PlainQueue.{PlainQueue, plainTicked}
 use Rattle.registers.specs.declared.PcmRegisters.{PcmRegisters}
 use Rattle.registers.specs.declared.WaveformType.{WaveformType}
 use Rattle.registers.specs.declared.WaveformType.the-variants as waveforms

@@ -17,8 +17,8 @@ use Rattle.version.specs.Versions.{has3ws8pna, hasSampleControl}
 use Rattle.version.specs.declared.SguVersion.{SguVersion}
 use Rattle.registers.specs.Control.{writeRegisters}
 use Rattle.registers.specs.Pcm.{setSampleControl, writePcm}
-use Rattle.registers.specs.Queue.{setLatch, pushed, pushedEntries, queued, FitEntries}
-use Rattle.registers.specs.PlainQueue.{plainQueueOf, plainPushed}
+use Rattle.registers.specs.Queue.{setLatch, pushed, pushedEntries, queued, plainQueueOf}
+use Rattle.registers.specs.PlainQueue.{plainPushed, FitEntries}
 use Rattle.registers.specs.declared.Fifo.{Fifo}
 use Rattle.registers.proofs.Ring.{line-pushed, length-queued}
 use Rattle.stream.specs.Cache.{emptied}

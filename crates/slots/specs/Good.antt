@@ -8,7 +8,8 @@ use Rattle.version.specs.Versions.{has34si22}
 use Rattle.version.specs.declared.SguVersion.{SguVersion}
 use Rattle.registers.specs.Control.{FitRegisters}
 use Rattle.registers.specs.Pcm.{FitPcm}
-use Rattle.registers.specs.Queue.{FitFifo, FitEntries}
+use Rattle.registers.specs.Queue.{FitFifo}
+use Rattle.registers.specs.PlainQueue.{FitEntries}
 use Rattle.stream.specs.Cache.{stock}
 use Rattle.stream.specs.Coherent.{CoherentIn}
 use Rattle.ticks.specs.Oscillators.{FitOscillator}

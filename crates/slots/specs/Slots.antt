@@ -8,7 +8,7 @@ use lib.ListN.{length, replicate, set}
 use lib.Seq.{sets}
 use Rattle.sizes.specs.Sizes.{fifoCapacity}
 use Rattle.version.specs.declared.SguVersion.{SguVersion}
-use Rattle.registers.specs.PlainQueue.{plainQueueOf}
+use Rattle.registers.specs.Queue.{plainQueueOf}
 use Rattle.stream.specs.Cache.{emptied}
 use Rattle.voice.specs.Channel.{defaultChannel, setStream, setChannelVersion}
 use Rattle.voice.specs.Writes.{writeControl, writeControlEntries, emptiesCache, writePcmReg}

@@ -18,7 +18,8 @@ use Rattle.tone.specs.Sides.{side, Ticks}
 use Rattle.tone.proofs.Ranges.{volume-fits}
 use Rattle.tone.proofs.Sides.{tick-one, ticks-none, ticks-more, ticks-sum, ticks-wider, ticks-fit, frame-range}
 use Rattle.tone.proofs.Wrapping.{wrapped-is}
-use Rattle.registers.specs.Queue.{ticked, AcceptedFifo, FitFifo, FitEntries}
+use Rattle.registers.specs.Queue.{ticked, AcceptedFifo, FitFifo}
+use Rattle.registers.specs.PlainQueue.{FitEntries}
 use Rattle.registers.proofs.Accepted.{tick-accepted}
 use Rattle.registers.proofs.Ranges.{tick-fits}
 use Rattle.registers.specs.declared.PcmRegisters.{PcmRegisters}
