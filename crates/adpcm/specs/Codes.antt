@@ -1,7 +1,8 @@
 -- SQV4's codes: what one does to the decoder, how it is packed, and the volume rules.
 use mathlib.Core.Bool.{Bool, true, false, cond}
 use mathlib.Core.List.{List, [], _∷_}
-use Prim.Native.Nat.{ℕ, _+_, _*_, _/_, _%_, min}
+use Prim.Native.Nat.{ℕ, zero, suc, _+_, _*_, _/_, _%_, _^_}
+use lib.Bits.{bitOr}
 use lib.Dec.{eqb}
 use lib.ListN.{getD}
 use lib.IntN.{ℤ, pos, negsuc, natAbs, _+ℤ_, _*ℤ_}
@@ -88,5 +89,15 @@ abbrev pub legacyVolume : ℤ → ℕ → ℤ
 legacyVolume p volume = quotZ (p *ℤ pos volume) (pos 255)
 
 -- ---- packed codes, the first lowest; past the last byte there are zeros
+-- n bytes from bit `at` on, one over the other
+unfoldable pub overlaid : List ℕ → ℕ → ℕ → ℕ
+overlaid payload at zero = 0
+overlaid payload at (suc n) = bitOr (overlaid payload at n) (field payload (at + 8 * n) 8)
+
+-- a code of any width in a byte: its bit i is set at place i % 8, so the bytes of a wider one lie over each other
+abbrev pub codeFrom : List ℕ → ℕ → ℕ → ℕ
+codeFrom payload at bits = bitOr (overlaid payload at (bits / 8)) (field payload (at + 8 * (bits / 8)) (bits % 8))
+
+-- the code of a sample: the bit at which it begins is a number of 64 bits
 abbrev pub codeAt : List ℕ → ℕ → ℕ → ℕ
-codeAt payload sample bits = field payload (sample * min bits 8) (min bits 8)
+codeAt payload sample bits = codeFrom payload (sample * bits % 2 ^ 64) bits

@@ -6,7 +6,7 @@ ghost use lib.IntN.{ℤ, pos, natAbs};
 ghost use lib.ListN.{getD};
 ghost use Rattle.num.specs.Bytes.{field};
 ghost use Rattle.adpcm.specs.Ima.{stepSizes, stepSize, indexTable, difference as imaDifference, indexAfter};
-ghost use Rattle.adpcm.specs.Codes.{variantOf, bitsOf, payloadBytes, fragmentSize, legacyFragmentSize, levelsOf, levelIndexes, levelDifference, deltaAt, deltaOf, adjustOf, updateOf, decodeAt, decodeCode, appliedVolume, legacyVolume, codeAt};
+ghost use Rattle.adpcm.specs.Codes.{variantOf, bitsOf, payloadBytes, fragmentSize, legacyFragmentSize, levelsOf, levelIndexes, levelDifference, deltaAt, deltaOf, adjustOf, updateOf, decodeAt, decodeCode, appliedVolume, legacyVolume, overlaid, codeAt};
 
 pub enum Variant {
     H,
@@ -362,17 +362,43 @@ fn bits_in(input: &[u8], at: usize, within: usize, width: usize) -> u8
     (((low + 256 * high) >> (within as u32)) & mask) as u8
 }
 
-// The code of a sample, of at most 8 bits.
+// The product without what passes 64 bits.
+fn wrapping_mul(a: usize, b: usize) -> usize
+    ensures { λ r. ⌜ r ≡ a * b % 2 ^ 64 ⌝ }
+{
+    let low = a % 4294967296;
+    let under = b % 4294967296;
+    let mixed = (a / 4294967296 * under) % 4294967296 + (low * (b / 4294967296)) % 4294967296;
+    std::num::wrapping_add_usize(low * under, mixed % 4294967296 * 4294967296)
+}
+
+// Bytes from bit `within` of a byte on, one over the other.
+fn overlay(input: &[u8], at: usize, within: usize, bytes: usize) -> u8
+    requires { ⌜ (within ≤ 7) × (at + bytes < 2 ^ 64) ⌝ }
+    ensures { λ r. ⌜ r ≡ overlaid (now (input .entry)) (8 * at + within) bytes ⌝ }
+{
+    let mut code = 0;
+    let mut i = 0;
+    while i < bytes {
+        code |= bits_in(input, at + i, within, 8);
+        i += 1;
+    }
+    code
+}
+
+// The code of a sample, of any width: bit i of it is set at place i % 8.
 pub fn unpack_code(input: &[u8], sample: usize, bits: usize) -> u8
     ensures { λ r. ⌜ r ≡ codeAt (now (input .entry)) sample bits ⌝ }
 {
-    let width = num::least(bits, 8);
-    let within = sample % 8 * width;
-    let at = sample / 8 * width + within / 8;
-    bits_in(input, at, within % 8, width)
+    let first = wrapping_mul(sample, bits);
+    let at = first / 8;
+    let within = first % 8;
+    let bytes = bits / 8;
+    let code = overlay(input, at, within, num::least(bytes, input.len()));
+    code | bits_in(input, at + bytes, within, bits % 8)
 }
 
-// The code that begins at a bit.
+// The code that begins at a bit, of at most 8 bits.
 pub fn unpack_bits(input: &[u8], bit: usize, bits: usize) -> u8
     ensures { λ r. ⌜ r ≡ field (now (input .entry)) bit (min bits 8) ⌝ }
 {

@@ -1,7 +1,7 @@
 -- A turn of the loop over codes: what is placed, and what is to come, are the whole run. Assumes nothing.
-use mathlib.Core.Path.{_≡_, ap, _∙_}
+use mathlib.Core.Path.{_≡_, sym, ap, _∙_}
 use mathlib.Core.List.{List, _∷_}
-use Prim.Native.Nat.{ℕ, suc, _+_, _*_, _-_, _≤_, _<_, min}
+use Prim.Native.Nat.{ℕ, suc, _+_, _*_, _/_, _%_, _^_, _-_, _≤_, _<_, min}
 use native.Mathlib.Nat.{add-mul, one-mul}
 use native.Mathlib.Numerals.{add-one}
 use native.Mathlib.Omega.{arith}
@@ -11,26 +11,40 @@ use Rattle.num.specs.Bytes.{field}
 use Rattle.adpcm.specs.declared.Variant.{Variant}
 use Rattle.adpcm.specs.declared.Variant.the-variants.{H, L, LPlus}
 use Rattle.adpcm.specs.declared.State.{State}
-use Rattle.adpcm.specs.Codes.{bitsOf, decodeCode, codeAt}
+use Rattle.adpcm.specs.Codes.{bitsOf, decodeCode, codeFrom, codeAt}
+use Rattle.adpcm.proofs.Packed.{narrow-code}
+use Rattle.sqv4.proofs.Sizes.{narrow}
 use Rattle.sqv4.specs.Decoding.{codesFrom, soundOf, sounds, ends, strided}
 
 -- ---- the bit at which a code begins
-bits-small : (k : Variant) → bitsOf k ≤ 4
-bits-small H = omega arith
-bits-small L = omega arith
-bits-small LPlus = omega arith
-
 module _ (k : Variant) (bits : ℕ) (e : bits ≡ bitsOf k) where
   pub width : bits ≤ 4
-  width = rw e (bits-small k)
+  width = rw e (narrow k)
 
-  pub code-at : (payload : List ℕ) (i bit : ℕ) → bit ≡ i * bits → field payload bit (min bits 8) ≡ codeAt payload i (bitsOf k)
-  code-at payload i bit f =
-      let m : bits ≡ min bits 8 = omega (arith, width) in
-      ap (λ (b : ℕ). field payload b (min bits 8)) f ∙ ap (λ (w : ℕ). field payload (i * w) (min bits 8)) m ∙ ap (λ (w : ℕ). field payload (i * min w 8) (min w 8)) e
+  pub code-at : (payload : List ℕ) (i bit : ℕ) → bit < 2 ^ 64 → bit ≡ i * bits → field payload bit (min bits 8) ≡ codeAt payload i (bitsOf k)
+  code-at payload i bit h f =
+      let m : min bits 8 ≡ bits = omega (arith, width) in
+      let uncut : bit ≡ i * bits % 2 ^ 64 = omega arith in
+      ap (field payload bit) m
+      ∙ sym (narrow-code payload bit bits (omega (arith, width)))
+      ∙ ap (λ (b : ℕ). codeFrom payload b bits) uncut
+      ∙ ap (codeAt payload i) e
 
   pub next-bit : (i bit : ℕ) → bit ≡ i * bits → bit + bits ≡ (i + 1) * bits
   next-bit i bit f = rw (add-mul, one-mul) (ap (λ (n : ℕ). n + bits) f)
+
+-- ---- how far a fragment's codes reach
+pub codes-h : (n : ℕ) → 2 * n ≡ 8 * n / 4
+codes-h n = omega arith
+
+pub codes-l : (n : ℕ) → 2 * n + 2 * n / 3 ≡ 8 * n / 3
+codes-l n = omega arith
+
+-- more bytes than samples hold them all
+pub reach-is : (k : Variant) (size ahead wanted : ℕ) → min wanted (8 * min (size - min size ahead) wanted / bitsOf k) ≡ min wanted (8 * (size - ahead) / bitsOf k)
+reach-is H size ahead wanted = omega arith
+reach-is L size ahead wanted = omega arith
+reach-is LPlus size ahead wanted = omega arith
 
 -- the first of the codes to come
 next-code : (k : Variant) (payload : List ℕ) (i n : ℕ) → i < n → codesFrom k payload i (n - i) ≡ codeAt payload i (bitsOf k) ∷ codesFrom k payload (suc i) (n - suc i)

@@ -1,9 +1,10 @@
 -- A run of codes and a fragment: the samples, and the decoder's state after them.
 use mathlib.Core.Bool.{Bool, true, false, cond}
 use mathlib.Core.List.{List, [], _∷_}
-use Prim.Native.Nat.{ℕ, zero, suc, _+_, min}
+use Prim.Native.Nat.{ℕ, zero, suc, _+_, _-_, _*_, _/_, min}
 use lib.Dec.{eqb}
-use lib.ListN.{getD, drop, set}
+use lib.ListN.{length, getD, drop, set}
+use lib.Seq.{sets}
 use lib.IntN.{ℤ, pos}
 use Rattle.adpcm.specs.declared.Variant.{Variant}
 use Rattle.adpcm.specs.declared.State.{State}
@@ -50,6 +51,17 @@ samplesOf version k s b n = sounds version k (getD b 0 0) (begins version s b) (
 
 unfoldable pub stateOf : ℕ → Variant → State → List ℕ → ℕ → State
 stateOf version k s b n = ends version k (begins version s b) (codesOf version k b n)
+
+-- of n samples those whose codes lie whole in the fragment
+abbrev pub reached : ℕ → Variant → List ℕ → ℕ → ℕ
+reached version k b n = min n (8 * (length b - prefixOf version) / bitsOf k)
+
+-- a buffer that a fragment is decoded into, as far as its codes reach, and the state after that
+abbrev pub fragmentInto : List ℤ → ℕ → Variant → State → List ℕ → List ℤ
+fragmentInto out version k s b = sets out 0 (samplesOf version k s b (reached version k b (length out)))
+
+abbrev pub stateBehind : List ℤ → ℕ → Variant → State → List ℕ → State
+stateBehind out version k s b = stateOf version k s b (reached version k b (length out))
 
 -- of the versions before 3, 1 has levels of its own, and any other is as 2
 abbrev pub legacyVersion : ℕ → ℕ

@@ -1,12 +1,12 @@
 // A fragment's samples.
 ghost use mathlib.Core.Path.{_≡_};
 ghost use mathlib.Core.Bool.{cond};
-ghost use Prim.Native.Nat.{ℕ, _+_, _*_, _^_, _<_, _≤_, min};
+ghost use Prim.Native.Nat.{ℕ, _+_, _*_, _/_, _^_, _<_, _≤_, min};
 ghost use lib.Dec.{eqb};
 ghost use lib.ListN.{length, getD, set};
-ghost use lib.Seq.{sets};
 ghost use lib.IntN.{ℤ};
-ghost use Rattle.sqv4.specs.Decoding.{codesFrom, soundOf, sounds, ends, zeroState, startOf, begins, samplesOf, stateOf, legacyVersion, strided};
+ghost use Rattle.adpcm.specs.Codes.{bitsOf};
+ghost use Rattle.sqv4.specs.Decoding.{codesFrom, soundOf, sounds, ends, zeroState, startOf, begins, samplesOf, stateOf, reached, fragmentInto, stateBehind, legacyVersion, strided};
 use adpcm::State;
 use adpcm::Variant;
 
@@ -45,7 +45,7 @@ fn decode_codes(
     out: &mut [i16],
     places: Places,
 ) -> State
-    requires { ⌜ (places .count ≤ 64) × (places .step ≤ 2) × (places .at < 2 ^ 40) ⌝ }
+    requires { ⌜ (places .count < 2 ^ 62) × (places .step ≤ 2) × (places .at < 2 ^ 40) ⌝ }
     ensures { λ _. ⌜ now (out .exit) ≡ strided (now (out .entry)) (places .at) (places .step) (sounds version variant volume start (codesFrom variant (now (payload .entry)) 0 (places .count))) ⌝ }
     ensures { λ r. ⌜ r ≡ ends version variant start (codesFrom variant (now (payload .entry)) 0 (places .count)) ⌝ }
 {
@@ -96,7 +96,7 @@ pub(crate) fn decode_part(
     out: &mut [i16],
     places: Places,
 ) -> State
-    requires { ⌜ (places .count ≤ 64) × (places .step ≤ 2) × (places .at < 2 ^ 40) ⌝ }
+    requires { ⌜ (places .count < 2 ^ 62) × (places .step ≤ 2) × (places .at < 2 ^ 40) ⌝ }
     ensures { λ _. ⌜ now (out .exit) ≡ strided (now (out .entry)) (places .at) (places .step) (samplesOf version variant state (now (fragment .entry)) (places .count)) ⌝ }
     ensures { λ r. ⌜ r ≡ stateOf version variant state (now (fragment .entry)) (places .count) ⌝ }
 {
@@ -106,9 +106,31 @@ pub(crate) fn decode_part(
     decode_codes(version, variant, start, volume, payload, out, places)
 }
 
-// The first samples of a version 3 fragment, at most 63.
+// The codes that lie whole in a number of bytes.
+fn codes_in(variant: Variant, bytes: usize) -> usize
+    requires { ⌜ bytes < 2 ^ 62 ⌝ }
+    ensures { λ r. ⌜ r ≡ 8 * bytes / bitsOf variant ⌝ }
+{
+    match variant {
+        Variant::H => 2 * bytes,
+        Variant::L => 2 * bytes + 2 * bytes / 3,
+        Variant::LPlus => 2 * bytes + 2 * bytes / 3,
+    }
+}
+
+// How many of `wanted` samples have their codes whole in the fragment.
+fn reach(version: u8, variant: Variant, fragment: &[u8], wanted: usize) -> usize
+    requires { ⌜ wanted < 2 ^ 62 ⌝ }
+    ensures { λ r. ⌜ r ≡ reached version variant (now (fragment .entry)) wanted ⌝ }
+{
+    let prefix = num::least(fragment.len(), crate::check::prefix_of(version));
+    let bytes = num::least(fragment.len() - prefix, wanted);
+    num::least(wanted, codes_in(variant, bytes))
+}
+
+// The first samples of a version 3 fragment, as far as its codes and the buffer reach.
 pub fn decode_fragment(variant: Variant, fragment: &[u8], out: &mut [i16])
-    ensures { λ _. ⌜ now (out .exit) ≡ sets (now (out .entry)) 0 (samplesOf 3 variant zeroState (now (fragment .entry)) (min (length (now (out .entry))) 63)) ⌝ }
+    ensures { λ _. ⌜ now (out .exit) ≡ fragmentInto (now (out .entry)) 3 variant zeroState (now (fragment .entry)) ⌝ }
 {
     let zero = State {
         predictor: 0,
@@ -117,7 +139,7 @@ pub fn decode_fragment(variant: Variant, fragment: &[u8], out: &mut [i16])
     let places = Places {
         at: 0,
         step: 1,
-        count: num::least(out.len(), 63),
+        count: reach(3, variant, fragment, out.len()),
     };
     decode_part(3, variant, zero, fragment, out, places);
 }
@@ -128,7 +150,7 @@ fn legacy_version(version: u8) -> u8
     if version == 1 { 1 } else { 2 }
 }
 
-// The first samples of a fragment of version 1 or 2, at most 64, and the state after them.
+// The first samples of a fragment of version 1 or 2, as far as its codes and the buffer reach, and the state after them.
 pub fn decode_legacy_fragment(
     version: u8,
     variant: Variant,
@@ -136,20 +158,14 @@ pub fn decode_legacy_fragment(
     fragment: &[u8],
     out: &mut [i16],
 ) -> State
-    ensures { λ _. ⌜ now (out .exit) ≡ sets (now (out .entry)) 0 (samplesOf (legacyVersion version) variant state (now (fragment .entry)) (min (length (now (out .entry))) 64)) ⌝ }
-    ensures { λ r. ⌜ r ≡ stateOf (legacyVersion version) variant state (now (fragment .entry)) (min (length (now (out .entry))) 64) ⌝ }
+    ensures { λ _. ⌜ now (out .exit) ≡ fragmentInto (now (out .entry)) (legacyVersion version) variant state (now (fragment .entry)) ⌝ }
+    ensures { λ r. ⌜ r ≡ stateBehind (now (out .entry)) (legacyVersion version) variant state (now (fragment .entry)) ⌝ }
 {
+    let older = legacy_version(version);
     let places = Places {
         at: 0,
         step: 1,
-        count: num::least(out.len(), 64),
+        count: reach(older, variant, fragment, out.len()),
     };
-    decode_part(
-        legacy_version(version),
-        variant,
-        state,
-        fragment,
-        out,
-        places,
-    )
+    decode_part(older, variant, state, fragment, out, places)
 }

@@ -16,8 +16,8 @@ use Rattle.adpcm.specs.declared.Variant.{Variant}
 use Rattle.adpcm.specs.declared.State.{State}
 use Rattle.adpcm.specs.Codes.{fragmentSize, legacyFragmentSize}
 use Rattle.sqv4.specs.Files.{frameSamples, frameSize, frameCount}
-use Rattle.sqv4.specs.Decoding.{samplesOf, stateOf, zeroState, legacyVersion}
-use Rattle.sqv4.proofs.Sizes.{payload-size, legacy-size}
+use Rattle.sqv4.specs.Decoding.{samplesOf, stateOf, zeroState, reached, legacyVersion}
+use Rattle.sqv4.proofs.Sizes.{payload-size, legacy-size, reached-whole}
 use Rattle.sqv4.proofs.Wholes.{length-samples}
 use Rattle.stream.specs.declared.Info.{Info}
 use Rattle.stream.specs.Cache.{Plays, framesOf, countAt, bytesAt, fragmentSamples, fragmentState}
@@ -83,27 +83,30 @@ legacy-is v h k = cond-by (λ (n : ℕ). n ≡ v) (eqb v 1) 1 2 (λ e. sym (eqb-
     two : (v ≡ 1 → ⊥) → 2 ≡ v
     two e = omega arith
 
-module _ (d : List ℕ) (k : Variant) (i : Info) (p : Plays d k i) (s : State) (f : ℕ) where
-  pub alone-is : i .version ≡ 3 → (from n m : ℕ) → from ≡ 16 + f * i .«frame_size» → n ≡ countAt i f → m ≡ n
-      → samplesOf 3 k zeroState (take (from + i .«frame_size» - from) (drop from d)) (min m 63) ≡ fragmentSamples d k i s f
+module _ (d : List ℕ) (k : Variant) (i : Info) (p : Plays d k i) (s : State) (f : ℕ) (there : f < framesOf i) where
+  -- its bytes, and as many samples as it has
+  bytes-are : (from : ℕ) → from ≡ 16 + f * i .«frame_size» → take (from + i .«frame_size» - from) (drop from d) ≡ bytesAt d i f
+  bytes-are from a =
+      let z : from + i .«frame_size» - from ≡ i .«frame_size» = omega arith in
+      rw (z, a)
+
+  all-there : (m : ℕ) → m ≡ countAt i f → reached (i .version) k (bytesAt d i f) m ≡ countAt i f
+  all-there m q =
+      let e : length (bytesAt d i f) ≡ frameSize (i .version) k = simp (length-take, length-drop) (omega (arith, room-for d k i p f there, p .size)) in
+      reached-whole (i .version) k (bytesAt d i f) m e (omega (arith, per-range d k i p)) ∙ q
+
+  pub alone-is : i .version ≡ 3 → (from m : ℕ) → from ≡ 16 + f * i .«frame_size» → m ≡ countAt i f
+      → let b = take (from + i .«frame_size» - from) (drop from d) in samplesOf 3 k zeroState b (reached 3 k b m) ≡ fragmentSamples d k i s f
   unfolding fragmentSamples samplesOf
-  alone-is e from n m a b q =
-      let z : from + i .«frame_size» - from ≡ i .«frame_size» = omega arith in
-      let w : min m 63 ≡ countAt i f = omega (arith, p .per, rw e at (p .per)) in
-      rw (z, a, w, e)
+  alone-is e from m a q =
+      rw (bytes-are from a, rw e at (all-there m q), e)
 
-  pub legacy-samples : (i .version ≡ 3 → ⊥) → (from n m : ℕ) → from ≡ 16 + f * i .«frame_size» → n ≡ countAt i f → m ≡ n
-      → samplesOf (legacyVersion (i .version)) k s (take (from + i .«frame_size» - from) (drop from d)) (min m 64) ≡ fragmentSamples d k i s f
+  pub legacy-samples : (i .version ≡ 3 → ⊥) → (from m : ℕ) → from ≡ 16 + f * i .«frame_size» → m ≡ countAt i f
+      → let b = take (from + i .«frame_size» - from) (drop from d) in samplesOf (legacyVersion (i .version)) k s b (reached (legacyVersion (i .version)) k b m) ≡ fragmentSamples d k i s f
   unfolding fragmentSamples
-  legacy-samples e from n m a b q =
-      let z : from + i .«frame_size» - from ≡ i .«frame_size» = omega arith in
-      let w : min m 64 ≡ countAt i f = omega (arith, per-range d k i p) in
-      rw (legacy-is (i .version) (p .known) e, z, a, w)
+  legacy-samples e from m a q = rw (legacy-is (i .version) (p .known) e, bytes-are from a, all-there m q)
 
-  pub legacy-state : (i .version ≡ 3 → ⊥) → (from n m : ℕ) → from ≡ 16 + f * i .«frame_size» → n ≡ countAt i f → m ≡ n
-      → stateOf (legacyVersion (i .version)) k s (take (from + i .«frame_size» - from) (drop from d)) (min m 64) ≡ fragmentState d k i s f
+  pub legacy-state : (i .version ≡ 3 → ⊥) → (from m : ℕ) → from ≡ 16 + f * i .«frame_size» → m ≡ countAt i f
+      → let b = take (from + i .«frame_size» - from) (drop from d) in stateOf (legacyVersion (i .version)) k s b (reached (legacyVersion (i .version)) k b m) ≡ fragmentState d k i s f
   unfolding fragmentState
-  legacy-state e from n m a b q =
-      let z : from + i .«frame_size» - from ≡ i .«frame_size» = omega arith in
-      let w : min m 64 ≡ countAt i f = omega (arith, per-range d k i p) in
-      rw (legacy-is (i .version) (p .known) e, z, a, w)
+  legacy-state e from m a q = rw (legacy-is (i .version) (p .known) e, bytes-are from a, all-there m q)

@@ -79,7 +79,7 @@ loop-again c =
     let dc = c .before .before .before .before .before .decode-at in
     let so = c .before .before .sound in
     let bits = t .before .before .before .bits .ensures in
-    let code = code-at (a .variant) _ bits (a .payload .now) (l .i) (l .bit) (l .inv .5) in
+    let code = code-at (a .variant) _ bits (a .payload .now) (l .i) (l .bit) (omega (arith, l .inv .0, l .inv .6, start .pre .0)) (l .inv .5) in
     let near : SFits w16 (dc .result .predictor) = record { sfits = c .before .before .before .struct-told .given .0 .1 } in
     let ed : dc .result ≡ decodeCode (a .version) (a .variant) (l .state) (codeAt (a .payload .now) (l .i) (bitsOf (a .variant))) =
     rw (c .before .before .before .before .before .before .unpack-bits .ensures ∙ code, c .before .before .before .before .before .before .before .least .ensures, t .before .before .step-sizes .ensures) at (dc .ensures)

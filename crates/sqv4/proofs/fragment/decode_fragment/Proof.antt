@@ -4,8 +4,8 @@ use Rattle.sqv4.proofs.Strided.{strided-sets}
 use Rattle.sqv4.proofs.fragment.decode_fragment.Statement.{statement}
 use Rattle.sqv4.proofs.fragment.decode_fragment.Tie as tie
 
-least-requires : tie.Need-least-requires
-least-requires c κs = search needs
+reach-requires : tie.Need-reach-requires
+reach-requires c κs = search needs
 
 decode-part-requires : tie.Need-decode-part-requires
 decode-part-requires c κs = search needs
@@ -15,8 +15,7 @@ same-length c = search needs
 
 returns : tie.Need-returns
 returns c =
-    let s = c .before .before .before .before .before in
-    c .before .decode-part .ensures .0 ∙ rw (c .before .before .before .least .ensures) (strided-sets _ _ _)
+    c .before .decode-part .ensures .0 ∙ rw (c .before .before .before .reach .ensures) (strided-sets _ _ _)
 
 pub decode-fragment-spec : {M : Type 1} → statement M
-decode-fragment-spec = tie.close (tie.spec least-requires decode-part-requires same-length returns)
+decode-fragment-spec = tie.close (tie.spec reach-requires decode-part-requires same-length returns)

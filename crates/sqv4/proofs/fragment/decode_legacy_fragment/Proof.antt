@@ -4,11 +4,11 @@ use Rattle.sqv4.proofs.Strided.{strided-sets}
 use Rattle.sqv4.proofs.fragment.decode_legacy_fragment.Statement.{statement}
 use Rattle.sqv4.proofs.fragment.decode_legacy_fragment.Tie as tie
 
-least-requires : tie.Need-least-requires
-least-requires c κs = search needs
-
 legacy-version-requires : tie.Need-legacy-version-requires
 legacy-version-requires c κs = search needs
+
+reach-requires : tie.Need-reach-requires
+reach-requires c κs = search needs
 
 decode-part-requires : tie.Need-decode-part-requires
 decode-part-requires c κs = search needs
@@ -18,11 +18,11 @@ same-length c = search needs
 
 returns : tie.Need-returns
 returns c =
-    let v = c .before .before .before .legacy-version .ensures in
-    let n = c .before .before .before .before .least .ensures in
-    (c .before .decode-part .ensures .0 ∙ rw (v, n) (strided-sets _ _ _), rw (v, n) at (c .before .decode-part .ensures .1))
+    let v = c .before .before .before .before .legacy-version .ensures in
+    let n = c .before .before .before .reach .ensures in
+    (c .before .decode-part .ensures .0 ∙ rw (n, v) (strided-sets _ _ _), rw (n, v) at (c .before .decode-part .ensures .1))
 
 pub decode-legacy-fragment-spec : {M : Type 1} → statement M
 decode-legacy-fragment-spec =
     tie.close
-    (tie.spec least-requires legacy-version-requires decode-part-requires same-length returns)
+    (tie.spec legacy-version-requires reach-requires decode-part-requires same-length returns)

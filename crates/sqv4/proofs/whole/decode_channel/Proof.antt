@@ -57,7 +57,7 @@ decode-part-requires : tie.Need-decode-part-requires Inv-loop μ-loop
 decode-part-requires c κs =
     let s = c .before .before .before .before .before .before .before .before in
     let l = c .before .before .before .before .before .loop in
-    (c .before .before .frame-length .ensures .1, s .pre .0 .few .1, omega (arith, l .inv .low, s .pre .1, s .pre .0 .few .1, s .pre .0 .count, c .before .before .before .if1 .taken))
+    (omega (arith, c .before .before .frame-length .ensures .1), s .pre .0 .few .1, omega (arith, l .inv .low, s .pre .1, s .pre .0 .few .1, s .pre .0 .count, c .before .before .before .if1 .taken))
 
 mul-at : tie.Need-mul-at Inv-loop μ-loop
 mul-at c = omega (arith, mul-le-mul {n₂ = 64} {m₂ = 2} (c .before .before .before .before .frame-length .ensures .1) (c .before .before .before .before .before .before .before .before .before .before .pre .0 .few .1))

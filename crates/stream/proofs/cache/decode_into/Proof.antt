@@ -71,7 +71,7 @@ returns c =
     let at = 64 * (a .frame % 2) in
     let room : at + n ≤ length (a .samples .now) = omega (arith, s .pre .1 .0, per-range _ _ _ (s .pre .0)) in
     let m : length (take (at + n - at) (drop at (a .samples .now))) ≡ n = simp (length-take, length-drop) (omega arith) in
-    let q = alone-is (a .file .now) (a .variant) (a .info) (s .pre .0) (a .state) (a .frame) (c .before .before .before .before .if1 .taken) (16 + a .frame * a .info .«frame_size») n _ refl e m in
+    let q = alone-is (a .file .now) (a .variant) (a .info) (s .pre .0) (a .state) (a .frame) (s .pre .1 .1) (c .before .before .before .before .if1 .taken) (16 + a .frame * a .info .«frame_size») _ refl (m ∙ e) in
     (part-set (a .samples .now) (c .before .decode-fragment .last .1 .1 .0) (fragmentSamples (a .file .now) (a .variant) (a .info) (a .state) (a .frame)) at n room (length-fragment (a .file .now) (a .variant) (a .info) (a .state) (a .frame) ∙ sym e) (c .before .decode-fragment .ensures ∙ ap (sets (take (at + n - at) (drop at (a .samples .now))) 0) q), rw (eq-eqb (a .info .version) 3 (c .before .before .before .before .if1 .taken)))
 
 sub-decode-legacy-fragment : tie.Need-sub-decode-legacy-fragment
@@ -114,9 +114,9 @@ returns-2 c =
     let m : length (take (at + n - at) (drop at (a .samples .now))) ≡ n = simp (length-take, length-drop) (omega arith) in
     let no = c .before .before .before .before .if1 .left in
     let from = 16 + a .frame * a .info .«frame_size» in
-    let q = legacy-samples (a .file .now) (a .variant) (a .info) (s .pre .0) (a .state) (a .frame) no from n _ refl e m in (
+    let q = legacy-samples (a .file .now) (a .variant) (a .info) (s .pre .0) (a .state) (a .frame) (s .pre .1 .1) no from _ refl (m ∙ e) in (
       part-set (a .samples .now) (c .before .decode-legacy-fragment .last .1 .1 .1 .1 .0) (fragmentSamples (a .file .now) (a .variant) (a .info) (a .state) (a .frame)) at n room (length-fragment (a .file .now) (a .variant) (a .info) (a .state) (a .frame) ∙ sym e) (c .before .decode-legacy-fragment .ensures .0 ∙ ap (sets (take (at + n - at) (drop at (a .samples .now))) 0) q),
-      rw (ne-eqb (a .info .version) 3 no) (c .before .decode-legacy-fragment .ensures .1 ∙ legacy-state (a .file .now) (a .variant) (a .info) (s .pre .0) (a .state) (a .frame) no from n _ refl e m),
+      rw (ne-eqb (a .info .version) 3 no) (c .before .decode-legacy-fragment .ensures .1 ∙ legacy-state (a .file .now) (a .variant) (a .info) (s .pre .0) (a .state) (a .frame) (s .pre .1 .1) no from _ refl (m ∙ e)),
     )
 
 pub decode-into-spec : {M : Type 1} → statement M
