@@ -1,4 +1,4 @@
--- A turn of the check's loop over fragments. Assumes nothing.
+-- A turn of the check's loop over fragments, and answers by their numbers. Assumes nothing.
 use mathlib.Core.Path.{_≡_, refl, sym, ap, _∙_}
 use mathlib.Core.List.{List}
 use mathlib.Core.Logic.{_⊎_, inl, inr}
@@ -13,8 +13,21 @@ use Rattle.sqv4.specs.declared.Fault.{Fault}
 use Rattle.sqv4.specs.declared.Fault.the-variants.{Fine, Step, Padding}
 use Rattle.sqv4.specs.declared.Header.{Header}
 use Rattle.sqv4.specs.declared.Inspected.{Inspected}
-use Rattle.sqv4.specs.declared.Inspected.the-variants.{Accepted}
-use Rattle.sqv4.specs.Files.{faultIn, faultsFrom, unlessFault, usedAt, fragmentAt, Fills}
+use Rattle.sqv4.specs.declared.Inspected.the-variants.{Accepted, NonZeroPadding}
+use Rattle.sqv4.specs.Files.{faultIn, faultNumber, faultsFrom, unlessFault, usedAt, fragmentAt, numberOf, Fills}
+
+-- equal answers have one number
+pub numbered : {r x : Inspected} → r ≡ x → (r ≡ x) × (numberOf r ≡ numberOf x)
+numbered e = (e, ap numberOf e)
+
+-- a fault that has a number is told by it
+fault-number : (f : Fault) (x : Inspected) → 0 < length (faultNumber f) → numberOf (unlessFault f x) ≡ faultNumber f
+fault-number Fine x h = absurd (omega arith)
+fault-number (Step b) x h = refl
+fault-number Padding x h = refl
+
+pub fault-told : (f : Fault) {r : Inspected} → r ≡ unlessFault f NonZeroPadding → (r ≡ unlessFault f NonZeroPadding) × (0 < length (faultNumber f) → numberOf r ≡ faultNumber f)
+fault-told f e = (e, λ h. ap numberOf e ∙ fault-number f NonZeroPadding h)
 
 -- a fault makes what follows it of no account
 pub not-fine : (f : Fault) → (tagOf the-type f ≡ 1) ⊎ (tagOf the-type f ≡ 2) → (x y : Inspected) → unlessFault f x ≡ unlessFault f y

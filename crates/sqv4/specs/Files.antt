@@ -82,6 +82,12 @@ cleanTail version used b = ltb (le (drop (prefixOf version) b)) (2 ^ used)
 unfoldable pub faultIn : ℕ → ℕ → List ℕ → Fault
 faultIn version used b = cond (badStep version b) (Step (getD b 1 0)) (cond (cleanTail version used b) Fine Padding)
 
+-- document 01's number for a fragment's fault, and its value
+abbrev pub faultNumber : Fault → List ℕ
+faultNumber Fine = []
+faultNumber (Step i) = 12 ∷ i ∷ []
+faultNumber Padding = 13 ∷ []
+
 abbrev pub unlessFault : Fault → Inspected → Inspected
 unlessFault Fine x = x
 unlessFault (Step i) x = InvalidStepIndex i
@@ -130,6 +136,10 @@ numberOf ZeroSampleRate = 10 ∷ []
 numberOf (InvalidFileLength expected actual) = 11 ∷ expected ∷ actual ∷ []
 numberOf (InvalidStepIndex x) = 12 ∷ x ∷ []
 numberOf NonZeroPadding = 13 ∷ []
+
+-- what the table gives for a file: nothing where it is accepted
+abbrev pub refusedWith : List ℕ → List ℕ
+refusedWith d = numberOf (inspected d)
 
 -- a header whose fragments fill a file of the right length
 pub record Fills (d : List ℕ) (h : Header) : Type 0 where

@@ -7,7 +7,7 @@ ghost use lib.ListN.{length, getD, drop};
 ghost use Rattle.num.specs.Lists.{part};
 ghost use Rattle.num.specs.Bytes.{le};
 ghost use Rattle.adpcm.specs.Codes.{bitsOf};
-ghost use Rattle.sqv4.specs.Files.{frameSamples, prefixOf, frameSize, frameCount, magic, frameLength, usedAt, faultIn, unlessFault, faultsFrom, headerOf, measured, named, inspected, Fills};
+ghost use Rattle.sqv4.specs.Files.{frameSamples, prefixOf, frameSize, frameCount, magic, frameLength, usedAt, faultIn, faultNumber, unlessFault, faultsFrom, headerOf, measured, named, inspected, numberOf, refusedWith, Fills};
 use crate::Fault;
 use crate::Header;
 use crate::Inspected;
@@ -160,8 +160,10 @@ fn fault_in(version: u8, used: usize, fragment: &[u8]) -> Fault
     }
 }
 
+// A fault as the check's answer, by the same number.
 fn told(fault: Fault) -> Inspected
     ensures { λ r. ⌜ r ≡ unlessFault fault Inspected.NonZeroPadding ⌝ }
+    ensures { λ r. ⌜ (0 < length (faultNumber fault) → numberOf r ≡ faultNumber fault) ⌝ }
 {
     match fault {
         Fault::Fine => Inspected::NonZeroPadding,
@@ -275,6 +277,7 @@ fn check_named(file: &[u8], variant: Variant) -> Inspected
 // The check of a file.
 pub fn inspect(file: &[u8]) -> Inspected
     ensures { λ r. ⌜ r ≡ inspected (now (file .entry)) ⌝ }
+    ensures { λ r. ⌜ numberOf r ≡ refusedWith (now (file .entry)) ⌝ }
 {
     if file.len() < 16 {
         return Inspected::TruncatedHeader;

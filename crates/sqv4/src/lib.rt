@@ -40,7 +40,7 @@ pub enum Inspected {
 }
 
 // What is wrong with a fragment.
-pub enum Fault {
+pub(crate) enum Fault {
     Fine,
     Step(u8),
     Padding,

@@ -1,7 +1,7 @@
 // The whole of a file.
 ghost use mathlib.Core.Path.{_≡_};
 ghost use Prim.Native.Nat.{ℕ, _+_, _*_, _^_, _<_, _≤_};
-ghost use Rattle.sqv4.specs.Files.{Fills, inspected};
+ghost use Rattle.sqv4.specs.Files.{Fills, inspected, numberOf, refusedWith};
 ghost use Rattle.sqv4.specs.Decoding.{strided};
 ghost use Rattle.sqv4.specs.Whole.{channelWhole, decodedInto};
 use crate::Header;
@@ -49,6 +49,7 @@ fn decode_channel(file: &[u8], header: Header, channel: usize, samples: &mut [i1
 // A whole file into `samples`, its channels interleaved: the shorter of the two is served.
 pub fn decode(file: &[u8], samples: &mut [i16]) -> Inspected
     ensures { λ r. ⌜ r ≡ inspected (now (file .entry)) ⌝ }
+    ensures { λ r. ⌜ numberOf r ≡ refusedWith (now (file .entry)) ⌝ }
     ensures { λ _. ⌜ now (samples .exit) ≡ decodedInto (now (samples .entry)) (now (file .entry)) (inspected (now (file .entry))) ⌝ }
 {
     let found = crate::check::inspect(file);

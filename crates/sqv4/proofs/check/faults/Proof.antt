@@ -67,7 +67,7 @@ returns c =
     let a = s .args in
     let l = c .before .before .before .before .before .before .loop in
     let f = c .before .before .fault-in in
-    c .told .ensures
+    c .told .ensures .0
     ∙ not-fine (f .result) (c .before .match .keys2) NonZeroPadding (rest (a .file .now) (a .header) (l .position + 1))
     ∙ sym (turned (c .before .before))
     ∙ l .inv .2

@@ -4,6 +4,7 @@ use Rattle.sqv4.specs.Files.{byVariant}
 use mathlib.Core.Path.{_≡_, sym, ap, _∙_}
 use borrow.Author.Tests.{lt-ltb, le-ltb}
 use Rattle.sqv4.specs.Files.{inspected}
+use Rattle.sqv4.proofs.Checks.{numbered}
 use Rattle.sqv4.proofs.check.inspect.Statement.{statement}
 use Rattle.sqv4.proofs.check.inspect.Tie as tie
 
@@ -16,7 +17,7 @@ up c =
 
 returns : tie.Need-returns
 unfolding inspected
-returns c = rw (lt-ltb _ 16 (c .if1 .taken))
+returns c = numbered (rw (lt-ltb _ 16 (c .if1 .taken)))
 
 has-magic-requires : tie.Need-has-magic-requires
 has-magic-requires c κs = search needs
@@ -40,21 +41,21 @@ enum-told : tie.Need-enum-told
 enum-told c = search needs
 
 returns-2 : tie.Need-returns-2
-returns-2 c = sym (up (c .before .before) ∙ ap (byVariant (c .before .before .before .before .before .before .before .before .before .before .before .args .file .now) (getD (c .before .before .before .before .before .before .before .before .before .before .before .args .file .now) 5 0)) (c .enum-told .given .1))
+returns-2 c = numbered (sym (up (c .before .before) ∙ ap (byVariant (c .before .before .before .before .before .before .before .before .before .before .before .args .file .now) (getD (c .before .before .before .before .before .before .before .before .before .before .before .args .file .now) 5 0)) (c .enum-told .given .1)))
 
 check-named-requires : tie.Need-check-named-requires
 check-named-requires c κs = search needs
 
 returns-3 : tie.Need-returns-3
-returns-3 c = c .check-named .ensures ∙ sym (up (c .before .before .before .before) ∙ ap (byVariant (c .before .before .before .before .before .before .before .before .before .before .before .before .before .args .file .now) (getD (c .before .before .before .before .before .before .before .before .before .before .before .before .before .args .file .now) 5 0)) (c .before .before .named .given .1))
+returns-3 c = numbered (c .check-named .ensures ∙ sym (up (c .before .before .before .before) ∙ ap (byVariant (c .before .before .before .before .before .before .before .before .before .before .before .before .before .args .file .now) (getD (c .before .before .before .before .before .before .before .before .before .before .before .before .before .args .file .now) 5 0)) (c .before .before .named .given .1)))
 
 returns-4 : tie.Need-returns-4
 unfolding inspected
-returns-4 c = rw (le-ltb _ 16 (c .before .before .before .before .before .if1 .left), sym (c .before .before .before .before .has-magic .ensures) ∙ c .before .before .before .if2 .taken, sym (c .before .known-version .ensures) ∙ c .if3 .left)
+returns-4 c = numbered (rw (le-ltb _ 16 (c .before .before .before .before .before .if1 .left), sym (c .before .before .before .before .has-magic .ensures) ∙ c .before .before .before .if2 .taken, sym (c .before .known-version .ensures) ∙ c .if3 .left))
 
 returns-5 : tie.Need-returns-5
 unfolding inspected
-returns-5 c = rw (le-ltb _ 16 (c .before .before .if1 .left), sym (c .before .has-magic .ensures) ∙ c .if2 .left)
+returns-5 c = numbered (rw (le-ltb _ 16 (c .before .before .if1 .left), sym (c .before .has-magic .ensures) ∙ c .if2 .left))
 
 pub inspect-spec : {M : Type 1} → statement M
 inspect-spec =

@@ -9,7 +9,7 @@ use Rattle.stream.proofs.file.open_bytes.Statement.{statement}
 use Rattle.stream.proofs.file.open_bytes.Tie as tie
 
 found : (c : tie.After-inspected) → inspected (c .before .before .before .before .args .file .now) ≡ Accepted (c .inspected .given .0 .0)
-found c = sym (c .before .before .inspect .ensures) ∙ c .inspected .given .1
+found c = sym (c .before .before .inspect .ensures .0) ∙ c .inspected .given .1
 
 inspect-requires : tie.Need-inspect-requires
 inspect-requires c κs = search needs
@@ -21,7 +21,7 @@ returns : tie.Need-returns
 returns c =
     let a = c .before .before .before .args in
     refused-none (a .wants-v3) (a .start) (a .loop-addr) (c .before .inspect .result) (c .match .keys2)
-    ∙ ap (openedAs (a .wants-v3) (a .start) (a .loop-addr)) (c .before .inspect .ensures)
+    ∙ ap (openedAs (a .wants-v3) (a .start) (a .loop-addr)) (c .before .inspect .ensures .0)
 
 is-wanted-requires : tie.Need-is-wanted-requires
 is-wanted-requires c κs = search needs
