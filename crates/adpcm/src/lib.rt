@@ -207,7 +207,10 @@ fn difference(step: u32, code: u8) -> u16
     ensures { λ r. ⌜ r ≡ imaDifference step code ⌝ }
 {
     let c = code as u32;
-    let d = c / 4 % 2 * step + c / 2 % 2 * (step / 2) + c % 2 * (step / 4) + step / 8;
+    let d = ((c >> 2) & 1) * step
+        + ((c >> 1) & 1) * (step >> 1)
+        + (c & 1) * (step >> 2)
+        + (step >> 3);
     d as u16
 }
 
@@ -235,7 +238,7 @@ fn level_difference(version: u8, variant: Variant, step: u32, code: u8) -> u16
     requires { ⌜ step < 2 ^ 15 ⌝ }
     ensures { λ r. ⌜ r ≡ levelDifference (levelsOf version variant) step code ⌝ }
 {
-    let level = level_at(version, variant, (code % 4) as usize);
+    let level = level_at(version, variant, (code & 3) as usize);
     ((level * step + 4) / 8) as u16
 }
 
@@ -245,13 +248,13 @@ fn delta_at(version: u8, variant: Variant, step: u32, code: u8) -> i32
     ensures { λ r. ⌜ (r ≡ deltaAt version variant step code) × (natAbs r < 2 ^ 16) ⌝ }
 {
     match variant {
-        Variant::H => num::with_sign(code / 8 % 2 == 1, difference(step, code)),
+        Variant::H => num::with_sign((code >> 3) & 1 == 1, difference(step, code)),
         Variant::L => num::with_sign(
-            code / 4 % 2 == 1,
+            (code >> 2) & 1 == 1,
             level_difference(version, Variant::L, step, code),
         ),
         Variant::LPlus => num::with_sign(
-            code / 4 % 2 == 1,
+            (code >> 2) & 1 == 1,
             level_difference(version, Variant::LPlus, step, code),
         ),
     }
@@ -268,7 +271,7 @@ pub fn delta(version: u8, variant: Variant, state: State, code: u8) -> i32
 fn code_adjust(code: u8) -> i32
     ensures { λ r. ⌜ r ≡ getD indexTable (code % 16) (pos 0) ⌝ }
 {
-    let size = code % 8;
+    let size = code & 7;
     if size < 4 {
         return -1;
     }
@@ -290,7 +293,7 @@ fn level_adjust(level: u8) -> i32
 fn adjust(variant: Variant, code: u8) -> i32
     ensures { λ r. ⌜ (r ≡ adjustOf variant code) × (natAbs r ≤ 8) ⌝ }
 {
-    let two = code % 4;
+    let two = code & 3;
     match variant {
         Variant::H => code_adjust(code),
         Variant::L => level_adjust(two),

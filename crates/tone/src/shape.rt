@@ -107,5 +107,5 @@ pub fn centred(q8: u16, interpolate: bool) -> i16
     if interpolate {
         return ((q8 as i32) - 32768) as i16;
     }
-    (((q8 / 256 * 256) as i32) - 32768) as i16
+    (((q8 & 65280) as i32) - 32768) as i16
 }

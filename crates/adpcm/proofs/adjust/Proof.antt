@@ -1,4 +1,5 @@
 use borrow.Author.Needs.{needs, sfits-of}
+use lib.Bits.{and-mask, mask-lt}
 use mir.Facts.{toZ-ofZ}
 use Rattle.adpcm.specs.declared.Variant.the-variants.{H, L, LPlus}
 use Rattle.adpcm.specs.Codes.{adjustOf}
@@ -16,13 +17,13 @@ enum-told-2 : tie.Need-enum-told-2
 enum-told-2 c = search needs
 
 level-adjust-requires : tie.Need-level-adjust-requires
-level-adjust-requires c κs = search needs
+level-adjust-requires c κs = mask-lt (c .before .before .args .code) 2
 
 enum-told-3 : tie.Need-enum-told-3
 enum-told-3 c = search needs
 
 level-adjust-requires-2 : tie.Need-level-adjust-requires-2
-level-adjust-requires-2 c κs = search needs
+level-adjust-requires-2 c κs = mask-lt (c .before .before .args .code) 2
 
 returns : tie.Need-returns
 unfolding adjustOf
@@ -30,11 +31,11 @@ returns c = rw (toZ-ofZ (sfits-of (c .code-adjust .ok)), c .before .enum-told .g
 
 returns-2 : tie.Need-returns-2
 unfolding adjustOf
-returns-2 c = rw (toZ-ofZ (sfits-of (c .level-adjust .ok)), c .before .enum-told2 .given .1) (c .level-adjust .ensures, rw (c .level-adjust .ensures) (adjust-le L (c .before .before .before .args .code)))
+returns-2 c = rw (toZ-ofZ (sfits-of (c .level-adjust .ok)), c .before .enum-told2 .given .1) (rw (and-mask (c .before .before .before .args .code) 2) at (c .level-adjust .ensures), rw (c .level-adjust .ensures, and-mask (c .before .before .before .args .code) 2) (adjust-le L (c .before .before .before .args .code)))
 
 returns-3 : tie.Need-returns-3
 unfolding adjustOf
-returns-3 c = rw (toZ-ofZ (sfits-of (c .level-adjust2 .ok)), c .before .enum-told3 .given .1) (c .level-adjust2 .ensures, rw (c .level-adjust2 .ensures) (adjust-le LPlus (c .before .before .before .args .code)))
+returns-3 c = rw (toZ-ofZ (sfits-of (c .level-adjust2 .ok)), c .before .enum-told3 .given .1) (rw (and-mask (c .before .before .before .args .code) 2) at (c .level-adjust2 .ensures), rw (c .level-adjust2 .ensures, and-mask (c .before .before .before .args .code) 2) (adjust-le LPlus (c .before .before .before .args .code)))
 
 pub adjust-spec : {M : Type 1} → statement M
 adjust-spec =

@@ -1,4 +1,6 @@
 use borrow.Author.Needs.{needs, sfits-of}
+use Prim.Native.Nat.{_/_}
+use lib.Bits.{and-mask}
 use mir.Facts.{toZ-ofZ}
 use Rattle.adpcm.specs.Codes.{deltaAt}
 use Rattle.adpcm.proofs.delta_at.Statement.{statement}
@@ -33,15 +35,15 @@ with-sign-requires-3 c κs = search needs
 
 returns : tie.Need-returns
 unfolding deltaAt
-returns c = rw (toZ-ofZ (sfits-of (c .with-sign .ok)), c .before .before .enum-told .given .1) (rw (c .before .difference .ensures) at (c .with-sign .ensures .0), c .with-sign .ensures .1)
+returns c = rw (toZ-ofZ (sfits-of (c .with-sign .ok)), c .before .before .enum-told .given .1) (rw (c .before .difference .ensures, and-mask (c .before .before .before .before .args .code / 8) 1) at (c .with-sign .ensures .0), c .with-sign .ensures .1)
 
 returns-2 : tie.Need-returns-2
 unfolding deltaAt
-returns-2 c = rw (toZ-ofZ (sfits-of (c .with-sign2 .ok)), c .before .before .enum-told2 .given .1) (rw (c .before .level-difference .ensures) at (c .with-sign2 .ensures .0), c .with-sign2 .ensures .1)
+returns-2 c = rw (toZ-ofZ (sfits-of (c .with-sign2 .ok)), c .before .before .enum-told2 .given .1) (rw (c .before .level-difference .ensures, and-mask (c .before .before .before .before .args .code / 4) 1) at (c .with-sign2 .ensures .0), c .with-sign2 .ensures .1)
 
 returns-3 : tie.Need-returns-3
 unfolding deltaAt
-returns-3 c = rw (toZ-ofZ (sfits-of (c .with-sign3 .ok)), c .before .before .enum-told3 .given .1) (rw (c .before .level-difference2 .ensures) at (c .with-sign3 .ensures .0), c .with-sign3 .ensures .1)
+returns-3 c = rw (toZ-ofZ (sfits-of (c .with-sign3 .ok)), c .before .before .enum-told3 .given .1) (rw (c .before .level-difference2 .ensures, and-mask (c .before .before .before .before .args .code / 4) 1) at (c .with-sign3 .ensures .0), c .with-sign3 .ensures .1)
 
 pub delta-at-spec : {M : Type 1} → statement M
 delta-at-spec =

@@ -1,19 +1,19 @@
 use native.Mathlib.Omega.{arith}
-use mathlib.Core.Path.{refl}
-use Prim.Native.Nat.{_/_, _%_, _*_, _≤_}
+use lib.Bits.{bitAnd, and-le-r, and-mask}
+use Prim.Native.Nat.{_/_, _*_, _≤_}
 use Rattle.num.proofs.Bits.{bit-le}
 use Rattle.adpcm.specs.Ima.{difference}
 use Rattle.adpcm.proofs.difference.Statement.{statement}
 use Rattle.adpcm.proofs.difference.Tie as tie
 
-four : (c : tie.Start) → c .args .code / 4 % 2 * c .args .step ≤ c .args .step
-four c = bit-le _ _ (omega arith)
+four : (c : tie.Start) → bitAnd (c .args .code / 4) 1 * c .args .step ≤ c .args .step
+four c = bit-le _ _ (and-le-r (c .args .code / 4) 1)
 
-two : (c : tie.Start) → c .args .code / 2 % 2 * (c .args .step / 2) ≤ c .args .step / 2
-two c = bit-le _ _ (omega arith)
+two : (c : tie.Start) → bitAnd (c .args .code / 2) 1 * (c .args .step / 2) ≤ c .args .step / 2
+two c = bit-le _ _ (and-le-r (c .args .code / 2) 1)
 
-one : (c : tie.Start) → c .args .code % 2 * (c .args .step / 4) ≤ c .args .step / 4
-one c = bit-le _ _ (omega arith)
+one : (c : tie.Start) → bitAnd (c .args .code) 1 * (c .args .step / 4) ≤ c .args .step / 4
+one c = bit-le _ _ (and-le-r (c .args .code) 1)
 
 mul-d : tie.Need-mul-d
 mul-d c = omega (arith, four c)
@@ -38,7 +38,7 @@ cast-result c = omega (arith, four c, two c, one c)
 
 returns : tie.Need-returns
 unfolding difference
-returns c = refl
+returns c = rw (and-mask (c .args .code / 4) 1, and-mask (c .args .code / 2) 1, and-mask (c .args .code) 1)
 
 pub difference-spec : {M : Type 1} → statement M
 difference-spec =

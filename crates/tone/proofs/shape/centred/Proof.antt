@@ -1,6 +1,8 @@
 use borrow.Author.Needs.{needs}
 use native.Mathlib.Omega.{arith}
-use Prim.Native.Nat.{_*_, _/_}
+use mathlib.Core.Path.{_≡_, _∙_}
+use Prim.Native.Nat.{ℕ, _*_, _/_, _<_}
+use lib.Bits.{bitAnd, and-high, and-le-l}
 use mir.Syntax.{w16, w32}
 use mir.Facts.{toZ-pos}
 use Rattle.num.proofs.Integers.{back}
@@ -26,24 +28,25 @@ unfolding centred
 returns c = let v = c .before .args .q8 in
     rw (toZ-pos w32 {n = v} (omega arith), back w32 _ (widen16-32 (about v (omega arith))), back w16 _ (about v (omega arith)), c .if1 .taken)
 
-mul-result : tie.Need-mul-result
-mul-result c = search needs
+-- without the eight low bits
+whole : (v : ℕ) → v < 65536 → bitAnd v 65280 ≡ v / 256 * 256
+whole v h = and-high v 8 8 ∙ omega arith
 
 cast-result-3 : tie.Need-cast-result-3
-cast-result-3 c = search needs
+cast-result-3 c = omega (arith, and-le-l (c .before .args .q8) 65280)
 
 sub-result-2 : tie.Need-sub-result-2
 sub-result-2 c = let v = c .before .args .q8 / 256 * 256 in
-    rw (toZ-pos w32 {n = v} (omega arith)) (widen16-32 (about v (omega arith)))
+    rw (whole (c .before .args .q8) (omega arith), toZ-pos w32 {n = v} (omega arith)) (widen16-32 (about v (omega arith)))
 
 cast-result-4 : tie.Need-cast-result-4
 cast-result-4 c = let v = c .before .args .q8 / 256 * 256 in
-    rw (toZ-pos w32 {n = v} (omega arith), back w32 _ (widen16-32 (about v (omega arith)))) (about v (omega arith))
+    rw (whole (c .before .args .q8) (omega arith), toZ-pos w32 {n = v} (omega arith), back w32 _ (widen16-32 (about v (omega arith)))) (about v (omega arith))
 
 returns-2 : tie.Need-returns-2
 unfolding centred
 returns-2 c = let v = c .before .args .q8 / 256 * 256 in
-    rw (toZ-pos w32 {n = v} (omega arith), back w32 _ (widen16-32 (about v (omega arith))), back w16 _ (about v (omega arith)), c .if1 .left)
+    rw (whole (c .before .args .q8) (omega arith), toZ-pos w32 {n = v} (omega arith), back w32 _ (widen16-32 (about v (omega arith))), back w16 _ (about v (omega arith)), c .if1 .left)
 
 pub centred-spec : {M : Type 1} → statement M
 centred-spec =
@@ -53,7 +56,6 @@ centred-spec =
     sub-result
     cast-result-2
     returns
-    mul-result
     cast-result-3
     sub-result-2
     cast-result-4
