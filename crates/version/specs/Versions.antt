@@ -19,6 +19,10 @@ versionNumber «V3_1» = 4
 abbrev pub versionOf : ℕ → SguVersion
 versionOf n = cond (eqb n 0) V1 (cond (eqb n 1) V2 (cond (eqb n 2) «V2_1» (cond (eqb n 3) V3 «V3_1»)))
 
+-- the version that a chip has where none is named
+abbrev pub defaultVersion : SguVersion
+defaultVersion = «V3_1»
+
 abbrev pub coreCount : SguVersion → ℕ
 coreCount V1 = 1
 coreCount V2 = 2

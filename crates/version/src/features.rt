@@ -1,9 +1,16 @@
 // What the versions have.
 ghost use mathlib.Core.Path.{_≡_};
-ghost use Rattle.version.specs.Versions.{versionNumber, versionOf, coreCount, has3ws8pna, has34si22, hasSampleControl, interpolates as interpolatesAt, wavetableMaskOf};
+ghost use Rattle.version.specs.Versions.{versionNumber, versionOf, defaultVersion, coreCount, has3ws8pna, has34si22, hasSampleControl, interpolates as interpolatesAt, wavetableMaskOf};
 use crate::SguVersion;
 
 impl SguVersion {
+    // The version of a chip that is made without one.
+    pub fn default() -> SguVersion
+        ensures { λ r. ⌜ r ≡ defaultVersion ⌝ }
+    {
+        SguVersion::V3_1
+    }
+
     // The number that session texts give a version.
     pub fn number(self) -> u8
         ensures { λ r. ⌜ r ≡ versionNumber self ⌝ }
