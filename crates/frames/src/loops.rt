@@ -28,11 +28,19 @@ fn put_sides(stems: &mut [i16], k: usize, sides: Sides)
 
 // A stream's cache is stored only where its ticks may have changed it. Where not every tick was served the voice is read anew:
 // ticks that are served then read no more of it than they use.
-fn turns(core: Core, of: Round, n: usize, ram: &[u8], queues: &[i16], stems: &mut [i16]) -> Turned
+fn turns(
+    core: Core,
+    of: Round,
+    n: usize,
+    ram: &[u8],
+    queues: &mut [i16],
+    stems: &mut [i16],
+) -> Turned
     requires { ⌜ (1 ≤ n) × (n ≤ 4) ⌝ ∗ ⌜ length (now queues) ≡ queueBuffer ⌝ ∗ ⌜ acceptsCore core (of .version) (length (now ram)) ≡ true ⌝ }
     ensures { λ r. ⌜ r ≡ afterTurns (turned (of .version) (now (ram .entry)) (now (queues .entry)) (of .first) n (length (now (stems .entry)) / 2) core) ⌝ }
     ensures { λ _. ⌜ now (stems .exit) ≡ sets (now (stems .entry)) 0 (turned (of .version) (now (ram .entry)) (now (queues .entry)) (of .first) n (length (now (stems .entry)) / 2) core .stems) ⌝ }
     ensures { λ r. ⌜ acceptsCore (r .core) (of .version) (length (now (ram .entry))) ≡ true ⌝ }
+    ensures { λ _. ⌜ now (queues .exit) ≡ now (queues .entry) ⌝ }
 {
     let mut core = core;
     let mut sides = Sides::silent();
@@ -63,7 +71,7 @@ fn turns(core: Core, of: Round, n: usize, ram: &[u8], queues: &[i16], stems: &mu
             }
             Kind::FifoDac => {
                 let c = core.channels[ch];
-                let v = of.queue(c, n, queues, ch);
+                let v = of.queue(c, n, &mut *queues, ch);
                 core.channels[ch] = c.after_queue(v);
                 sides = v.sides;
             }
@@ -96,7 +104,7 @@ pub fn run(
     core: Core,
     version: SguVersion,
     ram: &[u8],
-    queues: &[i16],
+    queues: &mut [i16],
     first: usize,
     ticks: usize,
     stems: &mut [i16],
@@ -104,8 +112,9 @@ pub fn run(
     ensures { λ r. ⌜ r ≡ afterTurns (runOf version (now (ram .entry)) (now (queues .entry)) first ticks (length (now (stems .entry)) / 2) core) ⌝ }
     ensures { λ _. ⌜ now (stems .exit) ≡ sets (now (stems .entry)) 0 (runOf version (now (ram .entry)) (now (queues .entry)) first ticks (length (now (stems .entry)) / 2) core .stems) ⌝ }
     ensures { λ r. ⌜ (acceptsCore core version (length (now (ram .entry))) ≡ true → acceptsCore (r .core) version (length (now (ram .entry))) ≡ true) ⌝ }
+    ensures { λ _. ⌜ now (queues .exit) ≡ now (queues .entry) ⌝ }
 {
-    if may_run(core, version, ram, queues, ticks) {
+    if may_run(core, version, ram, &*queues, ticks) {
         let of = Round { version, first };
         return turns(core, of, ticks, ram, queues, stems);
     }

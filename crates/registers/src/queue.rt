@@ -34,8 +34,9 @@ impl Fifo {
     }
 
     // The oldest sample is taken and held, if there is one.
-    pub fn pop(mut self, queue: &[i16], frequency: u16) -> Fifo
+    pub fn pop(mut self, queue: &mut [i16], frequency: u16) -> Fifo
         ensures { λ r. ⌜ r ≡ popped self (now (queue .entry)) frequency ⌝ }
+        ensures { λ _. ⌜ now (queue .exit) ≡ now (queue .entry) ⌝ }
     {
         let count = self.count;
         if count == 0 {
@@ -51,8 +52,9 @@ impl Fifo {
     }
 
     // The first tick of a frame: a new sample once the held one has lasted.
-    pub fn advance(mut self, queue: &[i16], frequency: u16) -> Fifo
+    pub fn advance(mut self, queue: &mut [i16], frequency: u16) -> Fifo
         ensures { λ r. ⌜ r ≡ advanced self (now (queue .entry)) frequency ⌝ }
+        ensures { λ _. ⌜ now (queue .exit) ≡ now (queue .entry) ⌝ }
     {
         let hold = self.hold;
         if hold == 0 {
@@ -62,8 +64,9 @@ impl Fifo {
         self
     }
 
-    pub fn tick(self, queue: &[i16], frequency: u16) -> Fifo
+    pub fn tick(self, queue: &mut [i16], frequency: u16) -> Fifo
         ensures { λ r. ⌜ r ≡ ticked self (now (queue .entry)) frequency ⌝ }
+        ensures { λ _. ⌜ now (queue .exit) ≡ now (queue .entry) ⌝ }
     {
         let sub = self.sub;
         let mut f = self;

@@ -63,9 +63,12 @@ module _ (plus : ℤ → ℤ → ℤ) (version : SguVersion) (ram : List ℕ) (q
   unfolding mixed
   begin e h = record { within = omega arith; is = refl; accepted = h; lefts = refl; rights = refl; long = e }
 
-  module _ (k : ℕ) (now : Mix) (g : Going plus version ram queues n start k now) (lent : eqb (length queues) queueBuffer ≡ true) (more : k < n) (count : ℕ) (ec : count ≡ min (n - k) 256) (stems : List ℤ) (es : length stems ≡ 16 * count) where
+  module _ (k : ℕ) (now : Mix) (g : Going plus version ram queues n start k now) (lent : eqb (length queues) queueBuffer ≡ true) (more : k < n) (count : ℕ) (ec : count ≡ min (n - k) 256) (entries : List ℤ) (kept : entries ≡ queues) (stems : List ℤ) (es : length stems ≡ 16 * count) where
     abbrev R : Turns
-    R = runOf version ram queues 0 4 (length stems / 2) (now .core)
+    R = runOf version ram entries 0 4 (length stems / 2) (now .core)
+
+    run-same : R ≡ runOf version ram queues 0 4 (length stems / 2) (now .core)
+    run-same = ap (λ (q : List ℤ). runOf version ram q 0 4 (length stems / 2) (now .core)) kept
 
     abbrev F : Turns
     F = frames version ram queues count (now .core)
@@ -77,13 +80,13 @@ module _ (plus : ℤ → ℤ → ℤ) (version : SguVersion) (ram : List ℕ) (q
     heard-is : (hand : ℕ) (side : List ℤ) → heardOn plus hand stems R side (length (now .left)) (length (now .right)) k ≡ addedTo plus count (F .stems) hand k side
     heard-is hand side =
         ap (λ (m : ℕ). addedTo plus m (sets stems 0 (R .stems)) hand k side) places
-        ∙ ap (λ (l : List ℤ). addedTo plus count l hand k side) (ran-stems version ram queues (now .core) lent (g .accepted) count stems es)
+        ∙ ap (λ (l : List ℤ). addedTo plus count l hand k side) (ap (λ (t : Turns). sets stems 0 (t .stems)) run-same ∙ ran-stems version ram queues (now .core) lent (g .accepted) count stems es)
 
     pub turn : (core : Core) (left right : List ℤ) → core ≡ R .core → left ≡ heardOn plus 0 stems R (now .left) (length (now .left)) (length (now .right)) k
         → right ≡ heardOn plus 1 stems R (now .right) (length (now .left)) (length (now .right)) k → acceptsCore core version (length ram) ≡ true
         → Going plus version ram queues n start (k + count) (mix core left right)
     turn core left right e l r h =
-        let e2 = e ∙ ran-core version ram queues (now .core) lent (g .accepted) count stems es in
+        let e2 = e ∙ ap (λ (t : Turns). t .core) run-same ∙ ran-core version ram queues (now .core) lent (g .accepted) count stems es in
         let l2 = l ∙ heard-is 0 (now .left) in
         let r2 = r ∙ heard-is 1 (now .right) in
         record {

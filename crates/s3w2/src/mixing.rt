@@ -31,7 +31,7 @@ fn add_frames(
     core: Core,
     version: SguVersion,
     ram: &[u8],
-    queues: &[i16],
+    queues: &mut [i16],
     stems: &mut [i16],
     left: &mut [i16],
     right: &mut [i16],
@@ -41,6 +41,7 @@ fn add_frames(
     ensures { λ _. ⌜ now (left .exit) ≡ heardOn saturating 0 (now (stems .entry)) (runOf version (now (ram .entry)) (now (queues .entry)) 0 4 (length (now (stems .entry)) / 2) core) (now (left .entry)) (length (now (left .entry))) (length (now (right .entry))) first ⌝ }
     ensures { λ _. ⌜ now (right .exit) ≡ heardOn saturating 1 (now (stems .entry)) (runOf version (now (ram .entry)) (now (queues .entry)) 0 4 (length (now (stems .entry)) / 2) core) (now (right .entry)) (length (now (left .entry))) (length (now (right .entry))) first ⌝ }
     ensures { λ r. ⌜ (acceptsCore core version (length (now (ram .entry))) ≡ true → acceptsCore r version (length (now (ram .entry))) ≡ true) ⌝ }
+    ensures { λ _. ⌜ now (queues .exit) ≡ now (queues .entry) ⌝ }
 {
     let next = frames::run(core, version, ram, queues, 0, 4, &mut *stems);
     sides::add(&*stems, left, right, first);
@@ -51,7 +52,7 @@ fn add_frames_i32(
     core: Core,
     version: SguVersion,
     ram: &[u8],
-    queues: &[i16],
+    queues: &mut [i16],
     stems: &mut [i16],
     left: &mut [i32],
     right: &mut [i32],
@@ -61,6 +62,7 @@ fn add_frames_i32(
     ensures { λ _. ⌜ now (left .exit) ≡ heardOn wrapping 0 (now (stems .entry)) (runOf version (now (ram .entry)) (now (queues .entry)) 0 4 (length (now (stems .entry)) / 2) core) (now (left .entry)) (length (now (left .entry))) (length (now (right .entry))) first ⌝ }
     ensures { λ _. ⌜ now (right .exit) ≡ heardOn wrapping 1 (now (stems .entry)) (runOf version (now (ram .entry)) (now (queues .entry)) 0 4 (length (now (stems .entry)) / 2) core) (now (right .entry)) (length (now (left .entry))) (length (now (right .entry))) first ⌝ }
     ensures { λ r. ⌜ (acceptsCore core version (length (now (ram .entry))) ≡ true → acceptsCore r version (length (now (ram .entry))) ≡ true) ⌝ }
+    ensures { λ _. ⌜ now (queues .exit) ≡ now (queues .entry) ⌝ }
 {
     let next = frames::run(core, version, ram, queues, 0, 4, &mut *stems);
     sides::add_i32(&*stems, left, right, first);
@@ -121,7 +123,7 @@ impl Chip {
                 core,
                 version,
                 ram,
-                &*queues,
+                &mut *queues,
                 part,
                 &mut *left,
                 &mut *right,
@@ -162,7 +164,7 @@ impl Chip {
                 core,
                 version,
                 ram,
-                &*queues,
+                &mut *queues,
                 part,
                 &mut *left,
                 &mut *right,

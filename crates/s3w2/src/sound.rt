@@ -23,7 +23,7 @@ impl Chip {
         }
         let version = self.version;
         let mut stems = [0i16; 2];
-        let next = frames::run(self.core, version, ram, &*queues, ch, 1, &mut stems);
+        let next = frames::run(self.core, version, ram, queues, ch, 1, &mut stems);
         self.with_core(next.core, Answer::Sample(next.sample))
     }
 
@@ -38,7 +38,7 @@ impl Chip {
             return self.answers(refusal);
         }
         let version = self.version;
-        let next = frames::run(self.core, version, ram, &*queues, 0, 4, stems);
+        let next = frames::run(self.core, version, ram, queues, 0, 4, stems);
         self.with_core(next.core, Answer::Done)
     }
 }

@@ -6,9 +6,10 @@ use crate::QueueSound;
 use registers::Registers;
 
 impl QueueSound {
-    fn step(self, g: Registers, queue: &[i16]) -> QueueSound
+    fn step(self, g: Registers, queue: &mut [i16]) -> QueueSound
         ensures { λ r. ⌜ r ≡ queueTick (g .frequency) (g .panpot) (now (queue .entry)) self ⌝ }
         ensures { λ r. ⌜ Adds 1 (self .sides) (r .sides) ⌝ }
+        ensures { λ _. ⌜ now (queue .exit) ≡ now (queue .entry) ⌝ }
     {
         let f = self.fifo;
         let old = self.sides;
@@ -17,13 +18,14 @@ impl QueueSound {
         QueueSound { fifo, sides }
     }
 
-    pub fn run(self, n: usize, g: Registers, queue: &[i16]) -> QueueSound
+    pub fn run(self, n: usize, g: Registers, queue: &mut [i16]) -> QueueSound
         ensures { λ r. ⌜ r ≡ queueTicks n (g .frequency) (g .panpot) (now (queue .entry)) self ⌝ }
         ensures { λ r. ⌜ Adds n (self .sides) (r .sides) ⌝ }
+        ensures { λ _. ⌜ now (queue .exit) ≡ now (queue .entry) ⌝ }
     {
         let mut v = self;
         for k in 0..n {
-            v = v.step(g, queue);
+            v = v.step(g, &mut *queue);
         }
         v
     }

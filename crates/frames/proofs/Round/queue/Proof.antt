@@ -1,6 +1,7 @@
 use borrow.Author.Needs.{needs}
-use mathlib.Core.Path.{refl, sym, subst}
-use Prim.Native.Nat.{_*_}
+use borrow.Rule.Slice.PartMut.{putMid, put-same}
+use mathlib.Core.Path.{refl, sym, ap, _∙_, subst}
+use Prim.Native.Nat.{_+_, _-_, _*_}
 use native.Mathlib.Omega.{arith}
 use Rattle.sizes.specs.Sizes.{fifoCapacity}
 use Rattle.registers.specs.Queue.{FitFifo}
@@ -37,16 +38,25 @@ part-run-end c = search needs
 run-requires : tie.Need-run-requires
 run-requires c κs = search needs
 
+same-length : tie.Need-same-length
+same-length c = search needs
+
 returns : tie.Need-returns
 returns c =
-    let b = c .before .before .before in
+    let b = c .before .before .before .before in
     let a = b .args in
-    let e = queue-is (a .n) (a .c .registers .frequency) (a .c .registers .panpot) (a .ch * fifoCapacity) _ (a .queues .now) _ _ _ refl (c .before .before .queue-sound .ensures) (c .run .ensures .0) in (
+    let run = c .before .run in
+    let sound = c .before .before .before .queue-sound in
+    let from = a .ch * fifoCapacity in
+    let e = queue-is (a .n) (a .c .registers .frequency) (a .c .registers .panpot) from _ (a .queues .now) _ _ _ refl (sound .ensures) (run .ensures .0) in (
       e,
-      λ ram accepted.
-          let g = c .run .ok .1 .1 in
-          let fits : FitFifo (c .run .result .fifo) = record { sample = record { sfits = g .0 .1 .1 .1 .1 .0 .1 }; byte = g .0 .1 .1 .1 .1 .1 .1 .1 .0 .1 } in
-          queue-kept (a .c) (a .self .version) ram (a .n) (omega (arith, b .pre)) accepted (fit-channel (a .c) (b .good .1 .0 .1 .1)) _ _ e fits (plain-room (a .n) _ (c .run .ensures .1 0 (omega (arith, b .pre)) (subst (λ (v : QueueSound). Room 0 (v .sides)) (sym (c .before .before .queue-sound .ensures)) room-none))),
+      (
+        (λ ram accepted.
+            let g = run .ok .1 .1 in
+            let fits : FitFifo (run .result .fifo) = record { sample = record { sfits = g .0 .1 .1 .1 .1 .0 .1 }; byte = g .0 .1 .1 .1 .1 .1 .1 .1 .0 .1 } in
+            queue-kept (a .c) (a .self .version) ram (a .n) (omega (arith, b .pre)) accepted (fit-channel (a .c) (b .good .1 .0 .1 .1)) _ _ e fits (plain-room (a .n) _ (run .ensures .1 .0 0 (omega (arith, b .pre)) (subst (λ (v : QueueSound). Room 0 (v .sides)) (sym (sound .ensures)) room-none)))),
+        ap (putMid from (from + fifoCapacity - from) (a .queues .now)) (run .ensures .1 .1) ∙ put-same from (from + fifoCapacity - from) (a .queues .now),
+      ),
     )
 
 pub queue-spec : {M : Type 1} → statement M
@@ -61,4 +71,5 @@ queue-spec =
     part-run-start
     part-run-end
     run-requires
+    same-length
     returns)

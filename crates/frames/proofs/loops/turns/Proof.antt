@@ -1,11 +1,18 @@
 use Rattle.voices.proofs.Accepting.{core-accepted}
 use borrow.Author.Needs.{needs}
-use mathlib.Core.Path.{_≡_, sym, _∙_, subst}
+use mathlib.Core.Path.{_≡_, refl, sym, ap, _∙_, subst}
+use mathlib.Core.List.{List}
 use Prim.Native.Nat.{_*_, _-_, _/_, _≤_}
 use native.Mathlib.Omega.{arith}
+use lib.IntN.{ℤ}
 use lib.ListN.{length}
 use mathlib.Core.Logic.{⊎-elim}
+use Rattle.sizes.specs.Sizes.{fifoCapacity}
+use Rattle.num.specs.Lists.{part}
+use Rattle.ticks.specs.Queues.{queueTicks}
 use Rattle.ticks.specs.declared.Sides.{Sides}
+use Rattle.voice.specs.Sounding.{queueSoundOf}
+use Rattle.voices.specs.Core.{channelAt}
 use Rattle.frames.proofs.Turns.{Turn, silent-turn, sound-turn, queue-turn, served-most, served-turn, stream-turn, turn-by}
 use Rattle.ticks.proofs.Sums.{stem-fits}
 use Rattle.frames.proofs.Fits.{sized, bytes}
@@ -32,11 +39,11 @@ use Rattle.voice.proofs.Channel.after_queue.Reads as after-queue-reads
 use Rattle.frames.proofs.loops.put_sides.Reads as put-sides-reads
 
 abbrev Inv-loop : tie.InvT-loop
-Inv-loop of n ram queues stems₀ core₀ sides₀ k₀ k-end stems core sides k =
-    Going (of .version) ram queues (of .first) n core₀ stems₀ k core sides stems × (k ≤ k-end) × (2 * k-end ≤ length stems₀)
+Inv-loop of n ram queues₀ stems₀ core₀ sides₀ k₀ k-end queues stems core sides k =
+    Going (of .version) ram queues₀ (of .first) n core₀ stems₀ k core sides stems × (k ≤ k-end) × (2 * k-end ≤ length stems₀) × (queues ≡ queues₀)
 
 abbrev μ-loop : tie.MeasureT-loop
-μ-loop of n ram queues stems₀ core₀ sides₀ k₀ k-end stems core sides k = k-end - k
+μ-loop of n ram queues₀ stems₀ core₀ sides₀ k₀ k-end queues stems core sides k = k-end - k
 
 silent-requires : tie.Need-silent-requires Inv-loop μ-loop
 silent-requires c κs = search needs
@@ -49,6 +56,7 @@ loop-holds c =
           (begin (a .of .version) (a .ram .now) (a .queues .now) (a .of .first) (a .n) (a .core) (a .stems .now) (sized (a .core) (b .good .0 .1 .1)) (bytes (a .core) (b .good .0 .1 .1)) (b .pre .1 .1)),
       omega arith,
       omega arith,
+      refl,
     )
 
 channel-requires : tie.Need-channel-requires Inv-loop μ-loop
@@ -151,16 +159,16 @@ element-copy-out-c-3 : tie.Need-element-copy-out-c-3 Inv-loop μ-loop
 element-copy-out-c-3 c = search needs
 
 queue-requires : tie.Need-queue-requires Inv-loop μ-loop
-queue-requires c κs = search needs
+queue-requires c κs = (c .before .before .before .before .before .before .before .before .before .before .before .pre .0 .1, (c .before .before .before .before .before .before .channel .ensures .1, ap length (c .before .before .before .before .before .before .before .before .loop .inv .3) ∙ c .before .before .before .before .before .before .before .before .before .before .before .pre .1 .0))
 
 after-queue-requires : tie.Need-after-queue-requires Inv-loop μ-loop
 after-queue-requires c κs = search needs
 
 mul-t56 : tie.Need-mul-t56 Inv-loop μ-loop
-mul-t56 c = search needs
+mul-t56 c = record { fits = omega (arith, c .before .before .before .before .before .before .before .before .before .channel .ensures .1) }
 
 element-set-from-core-4 : tie.Need-element-set-from-core-4 Inv-loop μ-loop
-element-set-from-core-4 c = search needs
+element-set-from-core-4 c = c .before .before .before .before .before .before .before .before .before .channel .ensures .1
 
 -- the voice's turn, whichever way it came
 abbrev Came : Type 0
@@ -180,16 +188,21 @@ came c =
     let low = b .pre .0 .0 in
     let high = b .pre .0 .1 in
     let ready = l .inv .0 .ready in
+    let at = channelAt (l .core) ch in
     ⊎-elim
-    (λ w. turn-by (w .3) (w .4 ∙ w .2 .ensures) (silent-turn (a .of .version) (a .ram .now) (a .queues .now) ch (a .n) (l .core) low high there ready (is ∙ w .1 .given .1)))
+    (λ w. turn-by (w .4) (w .5 ∙ w .2 .ensures) (silent-turn (a .of .version) (a .ram .now) (a .queues .now) ch (a .n) (l .core) low high there ready (is ∙ w .1 .given .1)))
     (⊎-elim
-    (λ w. turn-by (w .11) (w .12) (sound-turn (a .of .version) (a .ram .now) (a .queues .now) ch (a .n) (l .core) low high there ready (is ∙ w .1 .given .1) (w .3 .result) (w .5 .result) (w .8 .result) (w .9 .result) (w .3 .ensures .0) (w .5 .ensures) (w .8 .ensures .0) (w .8 .ensures .1) (w .9 .ensures)))
+    (λ w. turn-by (w .12) (w .13) (sound-turn (a .of .version) (a .ram .now) (a .queues .now) ch (a .n) (l .core) low high there ready (is ∙ w .1 .given .1) (w .3 .result) (w .5 .result) (w .8 .result) (w .9 .result) (w .3 .ensures .0) (w .5 .ensures) (w .8 .ensures .0) (w .8 .ensures .1) (w .9 .ensures)))
     (⊎-elim
-    (λ w. turn-by (w .10) (w .11) (served-turn (a .of .version) (a .ram .now) (a .queues .now) ch (a .n) (l .core) low high there ready (is ∙ w .1 .given .1) (w .5 .ensures .1) (w .5 .result) (w .5 .ensures .0) (w .8 .result) (w .7 .taken) (w .8 .ensures)))
+    (λ w. turn-by (w .11) (w .12) (served-turn (a .of .version) (a .ram .now) (a .queues .now) ch (a .n) (l .core) low high there ready (is ∙ w .1 .given .1) (w .5 .ensures .1) (w .5 .result) (w .5 .ensures .0) (w .8 .result) (w .7 .taken) (w .8 .ensures)))
     (⊎-elim
-    (λ w. turn-by (w .13) (w .14) (stream-turn (a .of .version) (a .ram .now) (a .queues .now) ch (a .n) (l .core) low high there ready (is ∙ w .1 .given .1) (w .5 .ensures .1) (w .5 .result) (w .5 .ensures .0) (w .10 .result) _ (w .11 .result) (w .10 .ensures) (w .11 .ensures)))
-    (λ w. turn-by (w .6) (w .7) (queue-turn (a .of .version) (a .ram .now) (a .queues .now) ch (a .n) (l .core) low high there ready (is ∙ w .1 .given .1) (w .3 .result) (w .4 .result) (w .3 .ensures .0) (w .3 .ensures .1) (w .4 .ensures))))))
+    (λ w. turn-by (w .14) (w .15) (stream-turn (a .of .version) (a .ram .now) (a .queues .now) ch (a .n) (l .core) low high there ready (is ∙ w .1 .given .1) (w .5 .ensures .1) (w .5 .result) (w .5 .ensures .0) (w .10 .result) _ (w .11 .result) (w .10 .ensures) (w .11 .ensures)))
+    (λ w. turn-by (w .9) (w .10) (queue-turn (a .of .version) (a .ram .now) (a .queues .now) ch (a .n) (l .core) low high there ready (is ∙ w .1 .given .1) (w .4 .result) (w .6 .result) (w .4 .ensures .0 ∙ ap (λ (q : List ℤ). queueTicks (a .n) (at .registers .frequency) (at .registers .panpot) (part q (ch * fifoCapacity) fifoCapacity) (queueSoundOf at)) (l .inv .3)) (w .4 .ensures .1 .0) (w .6 .ensures))))))
     (c .match .came)
+
+-- no voice's turn changes an entry
+kept : (c : Came) → c .match .queues ≡ c .before .before .before .before .before .loop .queues
+kept c = ⊎-elim (λ w. w .3) (⊎-elim (λ w. w .11) (⊎-elim (λ w. w .10) (⊎-elim (λ w. w .13) (λ w. w .8 ∙ w .4 .ensures .1 .1)))) (c .match .came)
 
 put-sides-requires : tie.Need-put-sides-requires Inv-loop μ-loop
 put-sides-requires c κs = (omega (arith, c .before .before .before .before .before .before .loop .inv, c .before .before .before .before .before .before .loop .inv .0 .long, c .before .before .before .before .before), stem-fits _ (came (c .before) .room))
@@ -206,10 +219,13 @@ loop-again c =
     let a = q .before .before .before .before .before .before .before .args in
     let l = q .before .before .before .before .loop in
     let g = turn (a .of .version) (a .ram .now) (a .queues .now) (a .of .first) (a .n) (a .core) (a .stems .now) (l .k) (q .before .before .channel .result) (l .core) (l .sides) (l .stems) (l .inv .0) (q .before .before .channel .ensures .0) in
-    (g _ _ _ (came (c .before .before .before)) (c .before .put-sides .ensures), omega (arith, q .before .before .before), omega (arith, l .inv))
+    (g _ _ _ (came (c .before .before .before)) (c .before .put-sides .ensures), omega (arith, q .before .before .before), omega (arith, l .inv), kept (c .before .before .before) ∙ l .inv .3)
 
 same-length : tie.Need-same-length Inv-loop μ-loop
-same-length c = c .before .before .loop .inv .0 .long
+same-length c = ap length (c .before .before .loop .inv .3)
+
+same-length-2 : tie.Need-same-length-2 Inv-loop μ-loop
+same-length-2 c = c .before .before .loop .inv .0 .long
 
 returns : tie.Need-returns Inv-loop μ-loop
 returns c =
@@ -217,7 +233,7 @@ returns c =
     let l = c .before .before .loop in
     let e : l .k ≡ length (a .stems .now) / 2 = omega (arith, l .inv) in (
       (λ i. record { core = l .core; sample = back w16 (l .sides .sample) (record { sfits = c .struct-told .given .0 .1 }) i }) ∙ over (a .of .version) (a .ram .now) (a .queues .now) (a .of .first) (a .n) (a .core) (a .stems .now) (l .k) _ (l .core) (l .sides) (l .stems) (l .inv .0) e,
-      (filled (a .of .version) (a .ram .now) (a .queues .now) (a .of .first) (a .n) (a .core) (a .stems .now) (l .k) _ (l .core) (l .sides) (l .stems) (l .inv .0) e, core-accepted (l .core) (a .of .version) (length (a .ram .now)) (l .inv .0 .ready .accepted)),
+      (filled (a .of .version) (a .ram .now) (a .queues .now) (a .of .first) (a .n) (a .core) (a .stems .now) (l .k) _ (l .core) (l .sides) (l .stems) (l .inv .0) e, (core-accepted (l .core) (a .of .version) (length (a .ram .now)) (l .inv .0 .ready .accepted), l .inv .3)),
     )
 
 pub turns-spec : {M : Type 1} → statement M
@@ -270,4 +286,5 @@ turns-spec =
     loop-less
     loop-again
     same-length
+    same-length-2
     returns)

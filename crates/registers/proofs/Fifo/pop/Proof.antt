@@ -1,7 +1,7 @@
 use borrow.Author.Needs.{needs}
 use borrow.Author.Needs.{sfits-of}
 use borrow.Author.Tests.{eq-eqb, ne-eqb}
-use mathlib.Core.Path.{_≡_, sym, ap, _∙_}
+use mathlib.Core.Path.{_≡_, refl, sym, ap, _∙_}
 use mathlib.Core.List.{List}
 use mathlib.Core.Logic.{⊎-elim}
 use Prim.Native.Nat.{ℕ, _+_, _-_}
@@ -25,13 +25,13 @@ take-is f q frequency x n e = rw (ne-eqb _ _ n, ring-place (f .head) 1, e, and-m
 
 returns : tie.Need-returns
 unfolding popped
-returns c = simp (eq-eqb _ _ (c .if1 .taken))
+returns c = (simp (eq-eqb _ _ (c .if1 .taken)), refl)
 
 mul-sample : tie.Need-mul-sample
 mul-sample c = search needs
 
-shared-slice-copy-out-sample : tie.Need-shared-slice-copy-out-sample
-shared-slice-copy-out-sample c = search needs
+slice-copy-out-sample : tie.Need-slice-copy-out-sample
+slice-copy-out-sample c = search needs
 
 sub-self : tie.Need-sub-self
 sub-self c = search needs
@@ -43,11 +43,11 @@ returns-2 : tie.Need-returns-2
 returns-2 c =
     let a = c .before .before .before .args in
     ⊎-elim
-    (λ w. take-is (a .self) (a .queue .now) (a .frequency) _ (c .before .before .if1 .left) (ap (toZ w16) (w .2) ∙ toZ-ofZ {w = w16} {z = getD (a .queue .now) (bitAnd (a .self .head) 2047) (pos 0)} (sfits-of (w .1 .given))))
-    (λ w. take-is (a .self) (a .queue .now) (a .frequency) _ (c .before .before .if1 .left) (ap (toZ w16) (w .1) ∙ sym (List·getD-eq-default (a .queue .now) (pos 0) (w .0 .left))))
+    (λ w. (take-is (a .self) (a .queue .now) (a .frequency) _ (c .before .before .if1 .left) (ap (toZ w16) (w .2) ∙ toZ-ofZ {w = w16} {z = getD (a .queue .now) (bitAnd (a .self .head) 2047) (pos 0)} (sfits-of (w .1 .given))), refl))
+    (λ w. (take-is (a .self) (a .queue .now) (a .frequency) _ (c .before .before .if1 .left) (ap (toZ w16) (w .1) ∙ sym (List·getD-eq-default (a .queue .now) (pos 0) (w .0 .left))), refl))
     (c .if2 .came)
 
 pub pop-spec : {M : Type 1} → statement M
 pop-spec =
     tie.close
-    (tie.spec returns mul-sample shared-slice-copy-out-sample sub-self add-self returns-2)
+    (tie.spec returns mul-sample slice-copy-out-sample sub-self add-self returns-2)

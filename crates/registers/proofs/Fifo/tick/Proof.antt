@@ -7,6 +7,7 @@ use Prim.Native.Nat.{ℕ, _+_, _%_}
 use native.Mathlib.Omega.{arith}
 use lib.Bits.{bitAnd, and-mask, and-le-r}
 use lib.IntN.{ℤ}
+use lib.ListN.{length}
 use Rattle.registers.specs.Queue.{advanced, ticked}
 use Rattle.registers.specs.declared.Fifo.{Fifo}
 use Rattle.registers.proofs.Fifo.tick.Statement.{statement}
@@ -33,13 +34,16 @@ advance-requires c κs = search needs
 add-f : tie.Need-add-f
 add-f c = omega (arith, and-le-r (c .before .args .self .sub) 3)
 
+same-length : tie.Need-same-length
+same-length c = ⊎-elim (λ w. ap length (w .4 ∙ w .2 .ensures .1)) (λ w. ap length (w .1)) (c .if1 .came)
+
 returns : tie.Need-returns
 returns c =
     let a = c .before .args in
     ⊎-elim
-    (λ w. first-tick (a .self) (c .if1 .f) (a .queue .now) (a .frequency) (w .0 .taken) (w .2 ∙ w .1 .ensures))
-    (λ w. other-tick (a .self) (c .if1 .f) (a .queue .now) (a .frequency) (w .0 .left) (w .1))
+    (λ w. (first-tick (a .self) (c .if1 .f) (a .queue .now) (a .frequency) (w .0 .taken) (w .5 ∙ w .2 .ensures .0), w .4 ∙ w .2 .ensures .1))
+    (λ w. (other-tick (a .self) (c .if1 .f) (a .queue .now) (a .frequency) (w .0 .left) (w .2), w .1))
     (c .if1 .came)
 
 pub tick-spec : {M : Type 1} → statement M
-tick-spec = tie.close (tie.spec advance-requires add-f returns)
+tick-spec = tie.close (tie.spec advance-requires add-f same-length returns)

@@ -43,13 +43,13 @@ same-length-2 c = search needs
 returns-2 : tie.Need-returns-2
 unfolding clockCalled clockStems
 returns-2 c =
-    let a = c .before .before .before .before .before .before .before .before .before .args in
-    let t = all-there _ _ _ _ (c .before .before .before .before .before .before .before .refusal-of-clock .result) (c .before .before .before .before .before .before .before .refusal-of-clock .ensures) (sym (c .before .before .before .before .before .before .is-done .ensures) ∙ not-false _ (c .before .before .before .before .before .if1 .left)) in
+    let a = c .before .before .before .before .before .before .before .before .before .before .args in
+    let t = all-there _ _ _ _ (c .before .before .before .before .before .before .before .before .refusal-of-clock .result) (c .before .before .before .before .before .before .before .before .refusal-of-clock .ensures) (sym (c .before .before .before .before .before .before .before .is-done .ensures) ∙ not-false _ (c .before .before .before .before .before .before .if1 .left)) in
     let e = eqb-true (length (a .stems .now)) (16 * a .frames) (t .enough) in
     let k = ran-core (a .self .version) (a .ram .now) (a .queues .now) (a .self .core) (t .lent) (t .accepted) (a .frames) (a .stems .now) e in
     let s = ran-stems (a .self .version) (a .ram .now) (a .queues .now) (a .self .core) (t .lent) (t .accepted) (a .frames) (a .stems .now) e in (
-      goes-called (c .before .before .before .before .before .before .before .refusal-of-clock .result) _ (c .before .before .before .before .before .before .before .refusal-of-clock .ensures) _ _ _ (sym (c .before .before .before .before .before .before .is-done .ensures) ∙ not-false _ (c .before .before .before .before .before .if1 .left)) (c .with-core .ensures ∙ ap (λ (x : Core). answered (withCore (a .self) x) Done) (ap (λ (x : Turned). x .core) (c .before .before .run .ensures .0) ∙ k)),
-      (refl, c .before .before .run .ensures .1 .0 ∙ s ∙ goes-on (c .before .before .before .before .before .before .before .refusal-of-clock .result) _ (c .before .before .before .before .before .before .before .refusal-of-clock .ensures) _ _ (sym (c .before .before .before .before .before .before .is-done .ensures) ∙ not-false _ (c .before .before .before .before .before .if1 .left))),
+      goes-called (c .before .before .before .before .before .before .before .before .refusal-of-clock .result) _ (c .before .before .before .before .before .before .before .before .refusal-of-clock .ensures) _ _ _ (sym (c .before .before .before .before .before .before .before .is-done .ensures) ∙ not-false _ (c .before .before .before .before .before .before .if1 .left)) (c .with-core .ensures ∙ ap (λ (x : Core). answered (withCore (a .self) x) Done) (ap (λ (x : Turned). x .core) (c .before .before .before .run .ensures .0) ∙ k)),
+      (c .before .before .before .run .ensures .1 .1 .1, c .before .before .before .run .ensures .1 .0 ∙ s ∙ goes-on (c .before .before .before .before .before .before .before .before .refusal-of-clock .result) _ (c .before .before .before .before .before .before .before .before .refusal-of-clock .ensures) _ _ (sym (c .before .before .before .before .before .before .before .is-done .ensures) ∙ not-false _ (c .before .before .before .before .before .before .if1 .left))),
     )
 
 pub clock-spec : {M : Type 1} → statement M

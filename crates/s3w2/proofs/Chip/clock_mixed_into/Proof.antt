@@ -21,11 +21,11 @@ use Rattle.s3w2.proofs.Chip.clock_mixed_into.Statement.{statement}
 use Rattle.s3w2.proofs.Chip.clock_mixed_into.Tie as tie
 
 abbrev Inv-loop : tie.InvT-loop
-Inv-loop self ram queues left₀ right₀ version core₀ n stems₀ done₀ left right core stems done =
-    Going saturating version ram queues n (mix core₀ left₀ right₀) done (mix core left right) × (length stems ≡ 4096) × (eqb (length queues) queueBuffer ≡ true) × (n ≤ length left₀)
+Inv-loop self ram queues₀ left₀ right₀ version core₀ n stems₀ done₀ queues left right core stems done =
+    Going saturating version ram queues₀ n (mix core₀ left₀ right₀) done (mix core left right) × (length stems ≡ 4096) × (eqb (length queues₀) queueBuffer ≡ true) × (n ≤ length left₀) × (queues ≡ queues₀)
 
 abbrev μ-loop : tie.MeasureT-loop
-μ-loop self ram queues left₀ right₀ version core₀ n stems₀ done₀ left right core stems done = n - done
+μ-loop self ram queues₀ left₀ right₀ version core₀ n stems₀ done₀ queues left right core stems done = n - done
 
 refusal-of-sound-requires : tie.Need-refusal-of-sound-requires Inv-loop μ-loop
 refusal-of-sound-requires c κs = search needs
@@ -47,7 +47,7 @@ loop-holds : tie.Need-loop-holds Inv-loop μ-loop
 loop-holds c =
     let a = c .before .before .before .before .before .before .args in
     let t = all-there _ _ _ _ (c .before .before .before .before .refusal-of-sound .result) (c .before .before .before .before .refusal-of-sound .ensures) (sym (c .before .before .before .is-done .ensures) ∙ not-false _ (c .before .before .if1 .left)) in
-    (begin saturating (a .self .version) (a .ram .now) (a .queues .now) (c .least .result) (mix (a .self .core) (a .left .now) (a .right .now)) (c .least .ensures) (t .accepted), length-replicate 4096 (pos 0), t .lent, omega (arith, c .least .ensures))
+    (begin saturating (a .self .version) (a .ram .now) (a .queues .now) (c .least .result) (mix (a .self .core) (a .left .now) (a .right .now)) (c .least .ensures) (t .accepted), length-replicate 4096 (pos 0), t .lent, omega (arith, c .least .ensures), refl)
 
 sub-least : tie.Need-sub-least Inv-loop μ-loop
 sub-least c = c .before .loop .inv .0 .within
@@ -68,38 +68,42 @@ add-frames-requires : tie.Need-add-frames-requires Inv-loop μ-loop
 add-frames-requires c κs = search needs
 
 add-done : tie.Need-add-done Inv-loop μ-loop
-add-done c = record { fits = omega (arith, c .before .before .before .before .before .before .before .before .least2 .ensures, c .before .before .before .before .before .before .before .before .before .before .loop .inv .0 .within, c .before .before .before .before .before .before .before .before .before .loop-test .taken, c .before .before .before .before .before .before .before .before .before .before .before .least .ok) }
+add-done c = record { fits = omega (arith, c .before .before .before .before .before .before .before .before .before .least2 .ensures, c .before .before .before .before .before .before .before .before .before .before .before .loop .inv .0 .within, c .before .before .before .before .before .before .before .before .before .before .loop-test .taken, c .before .before .before .before .before .before .before .before .before .before .before .before .least .ok) }
 
 loop-less : tie.Need-loop-less Inv-loop μ-loop
-loop-less c = omega (arith, c .before .before .before .before .before .before .before .before .least2 .ensures, c .before .before .before .before .before .before .before .before .before .loop-test .taken)
+loop-less c = omega (arith, c .before .before .before .before .before .before .before .before .before .least2 .ensures, c .before .before .before .before .before .before .before .before .before .before .loop-test .taken)
 
 loop-again : tie.Need-loop-again Inv-loop μ-loop
 loop-again c =
-    let l = c .before .before .before .before .before .before .before .before .before .before .loop in
-    let a = c .before .before .before .before .before .before .before .before .before .before .before .before .before .before .before .before .before .args in
-    let n = c .before .before .before .before .before .before .before .before .before .before .before .least .result in
-    let m = c .before .before .before .before .before .before .before .before .least2 .result in
-    let f = c .before .before .before .add-frames in
+    let l = c .before .before .before .before .before .before .before .before .before .before .before .loop in
+    let a = c .before .before .before .before .before .before .before .before .before .before .before .before .before .before .before .before .before .before .args in
+    let n = c .before .before .before .before .before .before .before .before .before .before .before .before .least .result in
+    let m = c .before .before .before .before .before .before .before .before .before .least2 .result in
+    let f = c .before .before .before .before .add-frames in
     let part = take (16 * m) (l .stems) in
-    let es : length part ≡ 16 * m = sym (prefix-length (16 * m) (l .stems) (omega (arith, c .before .before .before .before .before .before .before .before .least2 .ensures, l .inv .1))) in
+    let es : length part ≡ 16 * m = sym (prefix-length (16 * m) (l .stems) (omega (arith, c .before .before .before .before .before .before .before .before .before .least2 .ensures, l .inv .1))) in
     let ys : List ℤ = f .last .1 .1 .1 .1 .0 in
     let same : length ys ≡ length part = search needs in
-    let long : length (ys ++ drop (16 * m) (l .stems)) ≡ 4096 = rest-length ys (l .stems) m 4096 (same ∙ es) (l .inv .1) (omega (arith, c .before .before .before .before .before .before .before .before .least2 .ensures)) in
+    let long : length (ys ++ drop (16 * m) (l .stems)) ≡ 4096 = rest-length ys (l .stems) m 4096 (same ∙ es) (l .inv .1) (omega (arith, c .before .before .before .before .before .before .before .before .before .least2 .ensures)) in
     let g = l .inv .0 in (
-      turn saturating (a .self .version) (a .ram .now) (a .queues .now) n (mix (a .self .core) (a .left .now) (a .right .now)) (l .done) (mix (l .core) (l .left) (l .right)) g (l .inv .2) (c .before .before .before .before .before .before .before .before .before .loop-test .taken) m (c .before .before .before .before .before .before .before .before .least2 .ensures) part es _ _ _ (f .ensures .0) (f .ensures .1 .0) (f .ensures .1 .1 .0) (f .ensures .1 .1 .1 (g .accepted)),
+      turn saturating (a .self .version) (a .ram .now) (a .queues .now) n (mix (a .self .core) (a .left .now) (a .right .now)) (l .done) (mix (l .core) (l .left) (l .right)) g (l .inv .2) (c .before .before .before .before .before .before .before .before .before .before .loop-test .taken) m (c .before .before .before .before .before .before .before .before .before .least2 .ensures) (l .queues) (l .inv .4) part es _ _ _ (f .ensures .0) (f .ensures .1 .0) (f .ensures .1 .1 .0) (f .ensures .1 .1 .1 .0 (g .accepted)),
       long,
       l .inv .2,
       l .inv .3,
+      f .ensures .1 .1 .1 .1 ∙ l .inv .4,
     )
 
 with-core-requires : tie.Need-with-core-requires Inv-loop μ-loop
 with-core-requires c κs = search needs
 
 same-length : tie.Need-same-length Inv-loop μ-loop
-same-length c = c .before .before .loop .inv .0 .lefts
+same-length c = ap length (c .before .before .loop .inv .4)
 
 same-length-2 : tie.Need-same-length-2 Inv-loop μ-loop
-same-length-2 c = c .before .before .loop .inv .0 .rights
+same-length-2 c = c .before .before .loop .inv .0 .lefts
+
+same-length-3 : tie.Need-same-length-3 Inv-loop μ-loop
+same-length-3 c = c .before .before .loop .inv .0 .rights
 
 returns-2 : tie.Need-returns-2 Inv-loop μ-loop
 unfolding mixedCalled mixedLeft mixedRight
@@ -109,7 +113,7 @@ returns-2 c =
     let n = c .before .before .before .least .result in
     let o = over saturating (a .self .version) (a .ram .now) (a .queues .now) n (mix (a .self .core) (a .left .now) (a .right .now)) (l .done) (mix (l .core) (l .left) (l .right)) (l .inv .0) (c .before .loop-test .left) in (
       goes-called (c .before .before .before .before .before .before .before .refusal-of-sound .result) _ (c .before .before .before .before .before .before .before .refusal-of-sound .ensures) _ _ _ (sym (c .before .before .before .before .before .before .is-done .ensures) ∙ not-false _ (c .before .before .before .before .before .if1 .left)) (c .with-core .ensures ∙ ap (λ (m : Mix). answered (withCore (a .self) (m .core)) Done) o),
-      (refl, (ap (λ (m : Mix). m .left) o ∙ goes-on (c .before .before .before .before .before .before .before .refusal-of-sound .result) _ (c .before .before .before .before .before .before .before .refusal-of-sound .ensures) _ _ (sym (c .before .before .before .before .before .before .is-done .ensures) ∙ not-false _ (c .before .before .before .before .before .if1 .left)), ap (λ (m : Mix). m .right) o ∙ goes-on (c .before .before .before .before .before .before .before .refusal-of-sound .result) _ (c .before .before .before .before .before .before .before .refusal-of-sound .ensures) _ _ (sym (c .before .before .before .before .before .before .is-done .ensures) ∙ not-false _ (c .before .before .before .before .before .if1 .left)))),
+      (l .inv .4, (ap (λ (m : Mix). m .left) o ∙ goes-on (c .before .before .before .before .before .before .before .refusal-of-sound .result) _ (c .before .before .before .before .before .before .before .refusal-of-sound .ensures) _ _ (sym (c .before .before .before .before .before .before .is-done .ensures) ∙ not-false _ (c .before .before .before .before .before .if1 .left)), ap (λ (m : Mix). m .right) o ∙ goes-on (c .before .before .before .before .before .before .before .refusal-of-sound .result) _ (c .before .before .before .before .before .before .before .refusal-of-sound .ensures) _ _ (sym (c .before .before .before .before .before .before .is-done .ensures) ∙ not-false _ (c .before .before .before .before .before .if1 .left)))),
     )
 
 pub clock-mixed-into-spec : {M : Type 1} → statement M
@@ -136,4 +140,5 @@ clock-mixed-into-spec =
     with-core-requires
     same-length
     same-length-2
+    same-length-3
     returns-2)

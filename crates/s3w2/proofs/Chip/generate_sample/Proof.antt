@@ -52,10 +52,10 @@ same-length c = search needs
 returns-3 : tie.Need-returns-3
 unfolding generateSampleCalled
 returns-3 c =
-    let a = c .before .before .before .before .before .before .before .before .before .before .before .args in
-    let f : SFits w16 (c .before .before .before .run .result .sample) = record { sfits = c .before .struct-told .given .1 .0 .1 } in
-    let t = all-there _ _ _ _ (c .before .before .before .before .before .before .before .before .before .refusal-of-sound .result) (c .before .before .before .before .before .before .before .before .before .refusal-of-sound .ensures) (sym (c .before .before .before .before .before .before .before .before .is-done .ensures) ∙ not-false _ (c .before .before .before .before .before .before .before .if1 .left)) in
-    (goes-called (c .before .before .before .before .before .before .before .before .before .refusal-of-sound .result) _ (c .before .before .before .before .before .before .before .before .before .refusal-of-sound .ensures) _ _ _ (sym (c .before .before .before .before .before .before .before .before .is-done .ensures) ∙ not-false _ (c .before .before .before .before .before .before .before .if1 .left)) (c .with-core .ensures ∙ ap (λ (x : ℤ). answered (withCore (a .self) (c .before .before .before .run .result .core)) (Sample x)) (back w16 (c .before .before .before .run .result .sample) f) ∙ sample-some (a .self) (a .ram .now) (a .queues .now) (a .ch) (c .before .before .before .run .result .core) (c .before .before .before .run .result .sample) (c .before .before .before .before .before .before .if2 .left) (t .lent) (t .accepted) (c .before .before .before .run .ensures .0)), refl)
+    let a = c .before .before .before .before .before .before .before .before .before .before .before .before .args in
+    let f : SFits w16 (c .before .before .before .before .run .result .sample) = record { sfits = c .before .struct-told .given .1 .0 .1 } in
+    let t = all-there _ _ _ _ (c .before .before .before .before .before .before .before .before .before .before .refusal-of-sound .result) (c .before .before .before .before .before .before .before .before .before .before .refusal-of-sound .ensures) (sym (c .before .before .before .before .before .before .before .before .before .is-done .ensures) ∙ not-false _ (c .before .before .before .before .before .before .before .before .if1 .left)) in
+    (goes-called (c .before .before .before .before .before .before .before .before .before .before .refusal-of-sound .result) _ (c .before .before .before .before .before .before .before .before .before .before .refusal-of-sound .ensures) _ _ _ (sym (c .before .before .before .before .before .before .before .before .before .is-done .ensures) ∙ not-false _ (c .before .before .before .before .before .before .before .before .if1 .left)) (c .with-core .ensures ∙ ap (λ (x : ℤ). answered (withCore (a .self) (c .before .before .before .before .run .result .core)) (Sample x)) (back w16 (c .before .before .before .before .run .result .sample) f) ∙ sample-some (a .self) (a .ram .now) (a .queues .now) (a .ch) (c .before .before .before .before .run .result .core) (c .before .before .before .before .run .result .sample) (c .before .before .before .before .before .before .before .if2 .left) (t .lent) (t .accepted) (c .before .before .before .before .run .ensures .0)), c .before .before .before .before .run .ensures .1 .1 .1)
 
 pub generate-sample-spec : {M : Type 1} → statement M
 generate-sample-spec =

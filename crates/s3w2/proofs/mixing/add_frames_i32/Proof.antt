@@ -24,19 +24,22 @@ same-length-2 c = search needs
 same-length-3 : tie.Need-same-length-3
 same-length-3 c = search needs
 
+same-length-4 : tie.Need-same-length-4
+same-length-4 c = search needs
+
 returns : tie.Need-returns
 returns c =
-    let a = c .before .before .before .before .before .before .before .before .before .before .before .args in
-    let r = c .before .before .before .before .before .before .before .before .run in
+    let a = c .before .before .before .before .before .before .before .before .before .before .before .before .before .args in
+    let r = c .before .before .before .before .before .before .before .before .before .run in
     let d = c .before .before .before .add-i32 in
     let R = runOf (a .version) (a .ram .now) (a .queues .now) 0 4 (length (a .stems .now) / 2) (a .core) in
-    let out = c .before .before .before .before .before .before .before .before .run .last .1 .1 .1 .1 .1 .1 .0 in (
+    let out = r .last .1 .1 .1 .1 .1 .1 .0 in (
       ap (λ (t : Turned). t .core) (r .ensures .0),
       (
         heard-from wrapping 0 (a .stems .now) out (a .left .now) (d .last .1 .0) R (length (a .left .now)) (length (a .right .now)) (a .first) (r .ensures .1 .0) (d .ensures .0),
         (
           heard-from wrapping 1 (a .stems .now) out (a .right .now) (d .last .1 .1 .0) R (length (a .left .now)) (length (a .right .now)) (a .first) (r .ensures .1 .0) (d .ensures .1),
-          r .ensures .1 .1,
+          (r .ensures .1 .1 .0, r .ensures .1 .1 .1),
         ),
       ),
     )
@@ -44,4 +47,4 @@ returns c =
 pub add-frames-i32-spec : {M : Type 1} → statement M
 add-frames-i32-spec =
     tie.close
-    (tie.spec run-requires add-i32-requires same-length same-length-2 same-length-3 returns)
+    (tie.spec run-requires add-i32-requires same-length same-length-2 same-length-3 same-length-4 returns)

@@ -27,15 +27,19 @@ tick-requires c κs = search needs
 with-sample-requires : tie.Need-with-sample-requires
 with-sample-requires c κs = search needs
 
+same-length : tie.Need-same-length
+same-length c = search needs
+
 returns : tie.Need-returns
 returns c =
-    let b = c .before .before .before .before .before in
+    let b = c .before .before .before .before .before .before .before in
+    let t = c .before .before .before .tick in
     let a = b .args in
-    let h : SFits w16 (c .before .before .tick .result .held) = record { sfits = c .before .struct-told .given .1 .1 .0 .1 } in
+    let h : SFits w16 (t .result .held) = record { sfits = c .before .struct-told .given .1 .1 .0 .1 } in
     let e = rw (back w16 _ h) at (c .with-sample .ensures) in (
-      step-is (a .g .frequency) (a .g .panpot) (a .queue .now) (a .self) _ _ (c .before .before .tick .ensures) e,
-      λ m l r. subst (Room (m + 1)) (sym e) (heard-room m (a .self .sides) (c .before .before .tick .result .held) (a .g .panpot) (omega arith) h (b .good .1 .0 .1 .1 .1 .1 .1 .0 .1) r),
+      step-is (a .g .frequency) (a .g .panpot) (a .queue .now) (a .self) _ _ (t .ensures .0) e,
+      (λ m l r. subst (Room (m + 1)) (sym e) (heard-room m (a .self .sides) (t .result .held) (a .g .panpot) (omega arith) h (b .good .1 .0 .1 .1 .1 .1 .1 .0 .1) r), t .ensures .1),
     )
 
 pub step-spec : {M : Type 1} → statement M
-step-spec = tie.close (tie.spec tick-requires with-sample-requires returns)
+step-spec = tie.close (tie.spec tick-requires with-sample-requires same-length returns)
