@@ -20,17 +20,17 @@ use Rattle.s3w2.specs.Registers.{writeRegisterCalled, writeRegisterBuffer, read
 use Rattle.s3w2.specs.Mixing.{clockMixedCalled, clockMixedLeft, clockMixedRight}
 use Rattle.log_player.specs.declared.Player.{Player}
 use Rattle.log_player.specs.Worlds.{World, withChip}
-use Rattle.log_player.specs.Applied.{byteAnswered, clockedPlayer, clockedText, silent, playerAfter, ramAfter, queuesAfter, printed}
+use Rattle.log_player.specs.Applied.{byteAnswered, clockedPlayer, clockedText, silent, effectOf, afterLine, printed}
 
 -- what `apply` promises
 abbrev pub Applied : World → Line → Player → List ℕ → List ℤ → List ℕ → List ℕ → ℕ → ℕ → Type 0
 Applied w line p ram queues out now at end =
-    (p ≡ playerAfter w line) × ((ram ≡ ramAfter w line) × ((queues ≡ queuesAfter w line) × (Put out now at (printed w line) end × (length (printed w line) ≤ 16000))))
+    (p ≡ afterLine w line .player) × ((ram ≡ afterLine w line .ram) × ((queues ≡ afterLine w line .queues) × (Put out now at (printed w line) end × (length (printed w line) ≤ 16000))))
 
 -- one line for another that equals it
 equal : (w : World) (line other : Line) (p : Player) (ram : List ℕ) (queues : List ℤ) (out now : List ℕ) (at end : ℕ) → line ≡ other → Applied w other p ram queues out now at end → Applied w line p ram queues out now at end
 equal w line other p ram queues out now at end e a =
-    (a .0 ∙ ap (playerAfter w) (sym e), (a .1 .0 ∙ ap (ramAfter w) (sym e), (a .1 .1 .0 ∙ ap (queuesAfter w) (sym e), rw e (a .1 .1 .1))))
+    rw e a
 
 -- a line that prints nothing
 nothing : (out : List ℕ) (at same end : ℕ) → same ≡ min at (length out) → end ≡ same → Put out out at [] end × (0 ≤ 16000)
@@ -39,43 +39,43 @@ nothing out at same end s e = (put-none out at end (e ∙ s), omega arith)
 -- ---- lines that print nothing; `same` is the place at which they might have
 module _ (w : World) (line : Line) (p : Player) (out : List ℕ) (at same end : ℕ) where
   pub write-line : (a v : ℕ) (called : Called) (queues : List ℤ) → line ≡ Write a v → called ≡ writeRegisterCalled (w .player .chip) (length (w .queues)) a v → queues ≡ writeRegisterBuffer (w .player .chip) (w .queues) a v → p ≡ withChip (w .player) (called .chip) → same ≡ min at (length out) → end ≡ same → Applied w line p (w .ram) queues out out at end
-  unfolding playerAfter ramAfter queuesAfter printed
+  unfolding effectOf
   write-line a v called queues e c q h s r =
       equal w line (Write a v) p (w .ram) queues out out at end e
       (h ∙ ap (λ (k : Called). withChip (w .player) (k .chip)) c, (refl, (q, nothing out at same end s r)))
 
   pub ram-line : (a v : ℕ) (called : Called) (ram : List ℕ) → line ≡ WriteRam a v → called ≡ writePcmRamCalled (w .player .chip) (length (w .ram)) a → ram ≡ writePcmRamRam (w .player .chip) (w .ram) a v → p ≡ withChip (w .player) (called .chip) → same ≡ min at (length out) → end ≡ same → Applied w line p ram (w .queues) out out at end
-  unfolding playerAfter ramAfter queuesAfter printed
+  unfolding effectOf
   ram-line a v called ram e c m h s r =
       equal w line (WriteRam a v) p ram (w .queues) out out at end e
       (h ∙ ap (λ (k : Called). withChip (w .player) (k .chip)) c, (m, (refl, nothing out at same end s r)))
 
   pub version-line : (n : ℕ) (version : SguVersion) (called : Called) → line ≡ Version n → version ≡ versionOf n → called ≡ setVersionCalled (w .player .chip) version → p ≡ withChip (w .player) (called .chip) → same ≡ min at (length out) → end ≡ same → Applied w line p (w .ram) (w .queues) out out at end
-  unfolding playerAfter ramAfter queuesAfter printed
+  unfolding effectOf
   version-line n version called e v c h s r =
       equal w line (Version n) p (w .ram) (w .queues) out out at end e
       (h ∙ ap (λ (k : Called). withChip (w .player) (k .chip)) (c ∙ ap (setVersionCalled (w .player .chip)) v), (refl, (refl, nothing out at same end s r)))
 
   pub bad-line : line ≡ Malformed → p ≡ w .player → same ≡ min at (length out) → end ≡ same → Applied w line p (w .ram) (w .queues) out out at end
-  unfolding playerAfter ramAfter queuesAfter printed
+  unfolding effectOf
   bad-line e h s r = equal w line Malformed p (w .ram) (w .queues) out out at end e (h, (refl, (refl, nothing out at same end s r)))
 
 -- ---- lines that print
 module _ (w : World) (line : Line) (p : Player) (out now : List ℕ) (at end : ℕ) where
   pub read-line : (a byte same : ℕ) (called : Called) → line ≡ Read a → called ≡ readRegisterCalled (w .player .chip) a → byte ≡ byteAnswered (called .answer) → Put out now at (readBackLine 82 a byte) same × (length (readBackLine 82 a byte) ≤ 17) → p ≡ withChip (w .player) (called .chip) → end ≡ same → Applied w line p (w .ram) (w .queues) out now at end
-  unfolding playerAfter ramAfter queuesAfter printed
+  unfolding effectOf
   read-line a byte same called e c b t h r =
       equal w line (Read a) p (w .ram) (w .queues) out now at end e
       (h ∙ ap (λ (k : Called). withChip (w .player) (k .chip)) c, (refl, (refl, rw (r, ← (b ∙ ap (λ (k : Called). byteAnswered (k .answer)) c)) (t .0, omega (arith, t .1)))))
 
   pub peek-line : (a byte same : ℕ) (answer : Answer) → line ≡ Peek a → answer ≡ peekRegisterAnswer (w .player .chip) a → byte ≡ byteAnswered answer → Put out now at (readBackLine 80 a byte) same × (length (readBackLine 80 a byte) ≤ 17) → p ≡ w .player → end ≡ same → Applied w line p (w .ram) (w .queues) out now at end
-  unfolding playerAfter ramAfter queuesAfter printed
+  unfolding effectOf
   peek-line a byte same answer e c b t h r =
       equal w line (Peek a) p (w .ram) (w .queues) out now at end e
       (h, (refl, (refl, rw (r, ← (b ∙ ap byteAnswered c)) (t .0, omega (arith, t .1)))))
 
   pub clock-line : (n : ℕ) (queues : List ℤ) → line ≡ Clock n → p ≡ clockedPlayer (w .player) (w .ram) (w .queues) (silent n) (silent n) → queues ≡ w .queues → Put out now at (clockedText (w .player .chip) (w .ram) (w .queues) (silent n) (silent n)) end × (length (clockedText (w .player .chip) (w .ram) (w .queues) (silent n) (silent n)) ≤ 16000) → Applied w line p (w .ram) queues out now at end
-  unfolding playerAfter ramAfter queuesAfter printed
+  unfolding effectOf
   clock-line n queues e h q t = equal w line (Clock n) p (w .ram) queues out now at end e (h, (refl, (q, t)))
 
 -- ---- frames

@@ -1,13 +1,13 @@
 -- Lines that write, one more at a time. Assumes nothing.
 use mathlib.Core.Path.{_≡_, refl, sym, ap, _∙_}
 use mathlib.Core.Bool.{Bool, true, false}
-use mathlib.Core.List.{List, [], _++_}
+use mathlib.Core.List.{List, [], _++_, append-nil}
 use Prim.Native.Nat.{ℕ, zero, suc, _+_, _≤_, _<_, min}
 use native.Mathlib.Numerals.{add-one}
 use native.Mathlib.Omega.{arith}
 use lib.IntN.{ℤ}
 use lib.ListN.{length, take, drop, getD, set}
-use lib.Seq.{drop-drop, getD-set-same, getD-set-other, getD-take, length-take-le}
+use lib.Seq.{getD-set-same, getD-set-other, getD-take, length-take-le}
 use Rattle.log.specs.declared.Line.{Line}
 use Rattle.log.specs.declared.Line.the-variants.{Write, WriteRam, Read, Peek, Clock, Version, Malformed}
 use Rattle.log.specs.Lines.{parsedLine}
@@ -16,12 +16,14 @@ use Rattle.log_player.specs.declared.Assigned.the-variants.{To}
 use Rattle.log_player.specs.declared.Player.{Player}
 use Rattle.log_player.specs.declared.Next.the-variants.{Line as Played}
 use Rattle.log_player.specs.Worlds.{World, world, withChip}
-use Rattle.log_player.specs.Applied.{afterLine, playerAfter, ramAfter, queuesAfter, printed}
-use Rattle.log_player.specs.Logs.{malformed, restText}
+use Rattle.log_player.specs.Applied.{effectOf, afterLine, printed}
+use Rattle.log_player.specs.Logs.{malformed}
 use Rattle.log_player.specs.Steps.{firstLine, nextOf}
+use Rattle.log_player.specs.Runs.{spot, isLine, runFrom}
 use Rattle.log_player.specs.Bursts.{writing, assignedBy, allWritten, Collects, Bursts}
 use Rattle.log_player.proofs.Stops.{next-line}
-use Rattle.log_player.proofs.Whole.{step-line}
+use Rattle.log_player.proofs.Spots.{plays-line, run-next}
+use Rattle.log_player.proofs.Rooms.{room-is}
 
 -- only the first n addresses and values are looked at
 pub wrote-same :
@@ -48,14 +50,14 @@ wrote-more ram n a v xs ys w h k =
 pub wrote-registers :
     (n : ℕ) (xs ys : List ℕ) (p : Player) (ram : List ℕ) (q : List ℤ) →
     allWritten false n xs ys (world p ram q) ≡ world (withChip p (registersWritten n xs ys (fed (p .chip) q) .chip)) ram (registersWritten n xs ys (fed (p .chip) q) .queues)
-unfolding allWritten registersWritten playerAfter ramAfter queuesAfter
+unfolding allWritten registersWritten effectOf
 wrote-registers zero xs ys p ram q = refl
 wrote-registers (suc n) xs ys p ram q = ap (λ (w : World). afterLine w (Write (getD xs n 0) (getD ys n 0))) (wrote-registers n xs ys p ram q)
 
 pub wrote-bytes :
     (n : ℕ) (xs ys : List ℕ) (p : Player) (ram : List ℕ) (q : List ℤ) →
     allWritten true n xs ys (world p ram q) ≡ world (withChip p (bytesWritten n xs ys (filled (p .chip) ram) .chip)) (bytesWritten n xs ys (filled (p .chip) ram) .ram) q
-unfolding allWritten bytesWritten playerAfter ramAfter queuesAfter
+unfolding allWritten bytesWritten effectOf
 wrote-bytes zero xs ys p ram q = refl
 wrote-bytes (suc n) xs ys p ram q = ap (λ (w : World). afterLine w (WriteRam (getD xs n 0) (getD ys n 0))) (wrote-bytes n xs ys p ram q)
 
@@ -82,25 +84,25 @@ fine true a v = refl
 fine false a v = refl
 
 unprinted : (ram : Bool) (a v : ℕ) (w : World) → printed w (writing ram a v) ≡ []
-unfolding printed
+unfolding effectOf
 unprinted true a v w = refl
 unprinted false a v w = refl
 
 -- ---- lines one after the other
-pub collects-none : (ram : Bool) (input xs ys : List ℕ) → Collects ram input input 0 xs ys
+pub collects-none : (ram : Bool) (input : List ℕ) (from : ℕ) (xs ys : List ℕ) → Collects ram input from from 0 xs ys
 unfolding allWritten
-collects-none ram input xs ys = record {
-  left = λ w number more.
+collects-none ram input from xs ys = record {
+  left = λ room w number text h r.
       let k : number ≡ number + 0 = omega arith in
-      ap (λ (n : ℕ). restText w n [] (input ++ more)) k;
+      ap (λ (n : ℕ). runFrom room input (spot w n from text)) k;
 }
 
-module _ (ram : Bool) (start input : List ℕ) (place stop n a v : ℕ) (xs ys : List ℕ) where
+module _ (ram : Bool) (input : List ℕ) (from place stop n a v : ℕ) (xs ys : List ℕ) where
   pub collects-more :
-      Collects ram start (drop place input) n xs ys → stop ≡ place + length (firstLine (drop place input)) → stop < length input →
+      Collects ram input from place n xs ys → stop ≡ place + length (firstLine (drop place input)) → stop < length input →
       parsedLine (firstLine (drop place input)) ≡ writing ram a v → n < length xs → n < length ys →
-      Collects ram start (drop (stop + 1) input) (n + 1) (set xs n a) (set ys n v)
-  collects-more c s h line ha hv = record { left = λ w number more. c .left w number more ∙ one w number more }
+      Collects ram input from (stop + 1) (n + 1) (set xs n a) (set ys n v)
+  collects-more c s h line ha hv = record { left = λ room w number text k r. c .left room w number text (omega arith) r ∙ one room w number text k r }
     where
       rest : List ℕ
       rest = drop place input
@@ -108,26 +110,26 @@ module _ (ram : Bool) (start input : List ℕ) (place stop n a v : ℕ) (xs ys :
       next : nextOf rest place ≡ Played (stop + 1)
       next = next-line input place stop s (writing ram a v) (omega arith) (λ e. absurd (omega arith)) (sym line) (fine ram a v)
 
-      there : drop (suc (length (firstLine rest))) rest ≡ drop (stop + 1) input
-      there =
-          let k : place + suc (length (firstLine rest)) ≡ stop + 1 = omega arith in
-          drop-drop (suc (length (firstLine rest))) place input ∙ ap (λ (k : ℕ). drop k input) k
+      there : place + length (firstLine rest) + 1 ≡ stop + 1
+      there = omega arith
 
-      one : (w : World) (number : ℕ) (more : List ℕ) → restText (allWritten ram n xs ys w) (number + n) [] (rest ++ more) ≡ restText (allWritten ram (n + 1) (set xs n a) (set ys n v) w) (number + (n + 1)) [] (drop (stop + 1) input ++ more)
-      one w number more =
+      one : (room : ℕ) (w : World) (number : ℕ) (text : List ℕ) → number + (n + 1) < 18446744073709551615 → length text + 16384 ≤ room
+          → runFrom room input (spot (allWritten ram n xs ys w) (number + n) place text) ≡ runFrom room input (spot (allWritten ram (n + 1) (set xs n a) (set ys n v) w) (number + (n + 1)) (stop + 1) text)
+      one room w number text k r =
           let b = allWritten ram n xs ys w in
-          let k : suc (number + n) ≡ number + (n + 1) = omega arith in
-          step-line b (number + n) rest place (stop + 1) more next
-          ∙ ap (λ (t : Line). printed b t ++ restText (afterLine b t) (suc (number + n)) [] (drop (suc (length (firstLine rest))) rest ++ more)) line
-          ∙ ap (λ (t : List ℕ). t ++ restText (afterLine b (writing ram a v)) (suc (number + n)) [] (drop (suc (length (firstLine rest))) rest ++ more)) (unprinted ram a v b)
-          ∙ (λ i. restText (sym (wrote-more ram n a v xs ys w ha hv) i) (k i) [] (there i ++ more))
+          let s = spot b (number + n) place text in
+          let m : suc (number + n) ≡ number + (n + 1) = omega arith in
+          run-next room input s (plays-line room input s (room-is room (length text) (number + n) (omega arith) r) (ap isLine next))
+          ∙ ap (λ (t : Line). runFrom room input (spot (afterLine b t) (suc (number + n)) (place + length (firstLine rest) + 1) (text ++ printed b t))) line
+          ∙ (λ i. runFrom room input (spot (sym (wrote-more ram n a v xs ys w ha hv) i) (m i) (there i) ((ap (λ (t : List ℕ). text ++ t) (unprinted ram a v b) ∙ append-nil text) i)))
 
 -- ---- the lines that were collected, written
-module _ (ram : Bool) (w next : World) (number n : ℕ) (input behind xs ys : List ℕ) where
+module _ (ram : Bool) (input : List ℕ) (w next : World) (number from behind n : ℕ) (xs ys : List ℕ) where
   pub bursts :
-      Collects ram input behind n xs ys → n ≤ length xs → n ≤ length ys → next ≡ allWritten ram (min (length (take n xs)) (length (take n ys))) (take n xs) (take n ys) w →
-      Bursts w number input next (number + n) behind
-  bursts c h k e = record { left = λ more. c .left w number more ∙ ap (λ (u : World). restText u (number + n) [] (behind ++ more)) (sym (e ∙ all)) }
+      Collects ram input from behind n xs ys → number + n < 18446744073709551615 → n ≤ length xs → n ≤ length ys →
+      next ≡ allWritten ram (min (length (take n xs)) (length (take n ys))) (take n xs) (take n ys) w →
+      Bursts input w number from next (number + n) behind
+  bursts c few h k e = record { left = λ room text r. c .left room w number text few r ∙ ap (λ (u : World). runFrom room input (spot u (number + n) behind text)) (sym (e ∙ all)) }
     where
       long : min (length (take n xs)) (length (take n ys)) ≡ n
       long = omega (arith, length-take-le n xs h, length-take-le n ys k)

@@ -1,6 +1,8 @@
 pub mod Applies
 pub mod Stops
 pub mod Whole
+pub mod Rooms
+pub mod Spots
 pub mod Running
 pub mod Keeping
 pub mod Bursting

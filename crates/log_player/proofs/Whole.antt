@@ -5,12 +5,9 @@ use mathlib.Core.List.{List, [], _∷_, _++_, append-assoc, append-nil}
 use Prim.Native.Nat.{ℕ, suc, _+_, _≤_, _<_}
 use native.Mathlib.Omega.{arith}
 use lib.Dec.{eqb, leb}
-use lib.ListN.{length, drop, replicate, length-append, length-replicate}
+use lib.ListN.{length, drop, length-append}
 use lib.Seq.{drop-append-le}
 use borrow.Author.Tests.{eqb-true, eqb-false, leb-false, ne-eqb}
-use Rattle.num.proofs.Choice.{cond-by}
-use Rattle.s3w2.specs.Answers.{isDone}
-use Rattle.s3w2.specs.Fresh.{madeRefusal, madeRam}
 use Rattle.log.specs.Lines.{parsedLine}
 use Rattle.log.specs.Texts.{badLine}
 use Rattle.log.proofs.Long.{long-line}
@@ -147,9 +144,3 @@ module _ (w : World) (number : ℕ) (rest : List ℕ) (from : ℕ) where
           tell : (b : Bool) → malformed (parsedLine (firstLine rest)) ≡ b → restText w number [] rest ≡ endText (w .player) number (length rest)
           tell true m = absurd (let z : Bad ≡ Rest = rw (t, m) at e in let y : _≡_ {A = ℕ} 0 1 = cc in omega arith)
           tell false m = absurd (let z : Played (from + length (firstLine rest) + 1) ≡ Rest = rw (t, m) at e in let y : _≡_ {A = ℕ} 0 1 = cc in omega arith)
-
--- ---- the beginning: zeros stay zeros, so the program begins in the fresh world
-pub fresh-ram : (n : ℕ) → madeRam (replicate n 0) ≡ replicate n 0
-unfolding madeRam
-fresh-ram n =
-    cond-by (λ (l : List ℕ). l ≡ replicate n 0) (isDone (madeRefusal (length (replicate n 0)))) _ _ (λ e. ap (λ (k : ℕ). replicate k 0) (length-replicate n 0)) (λ e. refl)

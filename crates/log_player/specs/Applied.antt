@@ -53,43 +53,31 @@ clockedPlayer p ram queues left right = record {
 abbrev pub silent : ℕ → List ℤ
 silent n = replicate (min n 1000) (pos 0)
 
--- ---- a line
-unfoldable pub playerAfter : World → Line → Player
-playerAfter w (Write a v) = withChip (w .player) (writeRegisterCalled (w .player .chip) (length (w .queues)) a v .chip)
-playerAfter w (WriteRam a v) = withChip (w .player) (writePcmRamCalled (w .player .chip) (length (w .ram)) a .chip)
-playerAfter w (Read a) = withChip (w .player) (readRegisterCalled (w .player .chip) a .chip)
-playerAfter w (Peek a) = w .player
-playerAfter w (Clock n) = clockedPlayer (w .player) (w .ram) (w .queues) (silent n) (silent n)
-playerAfter w (Version v) = withChip (w .player) (setVersionCalled (w .player .chip) (versionOf v) .chip)
-playerAfter w Malformed = w .player
+-- ---- a line: the world after it, and what it prints
+pub record Effect : Type 0 where
+  pub after : World
+  pub text : List ℕ
 
-unfoldable pub ramAfter : World → Line → List ℕ
-ramAfter w (Write a v) = w .ram
-ramAfter w (WriteRam a v) = writePcmRamRam (w .player .chip) (w .ram) a v
-ramAfter w (Read a) = w .ram
-ramAfter w (Peek a) = w .ram
-ramAfter w (Clock n) = w .ram
-ramAfter w (Version v) = w .ram
-ramAfter w Malformed = w .ram
+abbrev pub effect : Player → List ℕ → List ℤ → List ℕ → Effect
+effect player ram queues text = record { after = world player ram queues; text = text }
 
-unfoldable pub queuesAfter : World → Line → List ℤ
-queuesAfter w (Write a v) = writeRegisterBuffer (w .player .chip) (w .queues) a v
-queuesAfter w (WriteRam a v) = w .queues
-queuesAfter w (Read a) = w .queues
-queuesAfter w (Peek a) = w .queues
-queuesAfter w (Clock n) = w .queues
-queuesAfter w (Version v) = w .queues
-queuesAfter w Malformed = w .queues
+-- `R` is 82, `P` is 80
+unfoldable pub effectOf : World → Line → Effect
+effectOf w (Write a v) =
+    effect (withChip (w .player) (writeRegisterCalled (w .player .chip) (length (w .queues)) a v .chip)) (w .ram) (writeRegisterBuffer (w .player .chip) (w .queues) a v) []
+effectOf w (WriteRam a v) =
+    effect (withChip (w .player) (writePcmRamCalled (w .player .chip) (length (w .ram)) a .chip)) (writePcmRamRam (w .player .chip) (w .ram) a v) (w .queues) []
+effectOf w (Read a) =
+    let called = readRegisterCalled (w .player .chip) a in
+    effect (withChip (w .player) (called .chip)) (w .ram) (w .queues) (readBackLine 82 a (byteAnswered (called .answer)))
+effectOf w (Peek a) = effect (w .player) (w .ram) (w .queues) (readBackLine 80 a (byteAnswered (peekRegisterAnswer (w .player .chip) a)))
+effectOf w (Clock n) =
+    effect (clockedPlayer (w .player) (w .ram) (w .queues) (silent n) (silent n)) (w .ram) (w .queues) (clockedText (w .player .chip) (w .ram) (w .queues) (silent n) (silent n))
+effectOf w (Version v) = effect (withChip (w .player) (setVersionCalled (w .player .chip) (versionOf v) .chip)) (w .ram) (w .queues) []
+effectOf w Malformed = effect (w .player) (w .ram) (w .queues) []
 
 abbrev pub afterLine : World → Line → World
-afterLine w line = world (playerAfter w line) (ramAfter w line) (queuesAfter w line)
+afterLine w line = effectOf w line .after
 
--- what it prints: `R` is 82, `P` is 80
-unfoldable pub printed : World → Line → List ℕ
-printed w (Write a v) = []
-printed w (WriteRam a v) = []
-printed w (Read a) = readBackLine 82 a (byteAnswered (readRegisterCalled (w .player .chip) a .answer))
-printed w (Peek a) = readBackLine 80 a (byteAnswered (peekRegisterAnswer (w .player .chip) a))
-printed w (Clock n) = clockedText (w .player .chip) (w .ram) (w .queues) (silent n) (silent n)
-printed w (Version v) = []
-printed w Malformed = []
+abbrev pub printed : World → Line → List ℕ
+printed w line = effectOf w line .text

@@ -1,7 +1,7 @@
 // Lines that write, many at a time: the chip is handed over once for all of them.
 ghost use mathlib.Core.Path.{_≡_};
 ghost use Prim.Native.Nat.{_+_, _≤_, _^_, _<_, min};
-ghost use lib.ListN.{length, drop};
+ghost use lib.ListN.{length};
 ghost use Rattle.log_player.specs.Worlds.{world};
 ghost use Rattle.log_player.specs.Bursts.{beginsWrite, assignedBy, allWritten, Collects, Bursts};
 use crate::Assigned;
@@ -57,7 +57,7 @@ fn collect(
 ) -> Collected
     requires { ⌜ (most ≤ length (now addresses)) × (most ≤ length (now values)) ⌝ }
     ensures { λ r. ⌜ r .count ≤ most ⌝ }
-    ensures { λ r. ⌜ Collects «to_ram» (drop from (now (input .entry))) (drop (r .from) (now (input .entry))) (r .count) (now (addresses .exit)) (now (values .exit)) ⌝ }
+    ensures { λ r. ⌜ Collects «to_ram» (now (input .entry)) from (r .from) (r .count) (now (addresses .exit)) (now (values .exit)) ⌝ }
 {
     let mut count = 0;
     let mut place = from;
@@ -121,7 +121,7 @@ impl Player {
         queues: &mut [i16],
     ) -> Burst
         requires { ⌜ number + 1 < 2 ^ 64 ⌝ }
-        ensures { λ r. ⌜ Bursts (world self (now (ram .entry)) (now (queues .entry))) number (drop from (now (input .entry))) (world (r .player) (now (ram .exit)) (now (queues .exit))) (r .number) (drop (r .from) (now (input .entry))) ⌝ }
+        ensures { λ r. ⌜ Bursts (now (input .entry)) (world self (now (ram .entry)) (now (queues .entry))) number from (world (r .player) (now (ram .exit)) (now (queues .exit))) (r .number) (r .from) ⌝ }
         ensures { λ r. ⌜ (number ≤ r .number) × (r .number + 1 < 2 ^ 64) ⌝ }
     {
         let mut addresses = [0u32; 256];

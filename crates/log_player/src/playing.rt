@@ -5,7 +5,7 @@ ghost use lib.ListN.{length};
 ghost use Rattle.decimal.specs.Written.{Put};
 ghost use Rattle.s3w2.specs.Fresh.{madeRam};
 ghost use Rattle.log_player.specs.Worlds.{world, withChip, freshPlayer};
-ghost use Rattle.log_player.specs.Applied.{byteAnswered, clockedPlayer, clockedText, silent, playerAfter, ramAfter, queuesAfter, printed};
+ghost use Rattle.log_player.specs.Applied.{byteAnswered, clockedPlayer, clockedText, silent, afterLine, printed};
 use crate::Played;
 use crate::Player;
 use log::Line;
@@ -106,9 +106,9 @@ impl Player {
         out: &mut [u8],
         at: usize,
     ) -> Played
-        ensures { λ r. ⌜ r .player ≡ playerAfter (world self (now (ram .entry)) (now (queues .entry))) line ⌝ }
-        ensures { λ _. ⌜ now (ram .exit) ≡ ramAfter (world self (now (ram .entry)) (now (queues .entry))) line ⌝ }
-        ensures { λ _. ⌜ now (queues .exit) ≡ queuesAfter (world self (now (ram .entry)) (now (queues .entry))) line ⌝ }
+        ensures { λ r. ⌜ r .player ≡ afterLine (world self (now (ram .entry)) (now (queues .entry))) line .player ⌝ }
+        ensures { λ _. ⌜ now (ram .exit) ≡ afterLine (world self (now (ram .entry)) (now (queues .entry))) line .ram ⌝ }
+        ensures { λ _. ⌜ now (queues .exit) ≡ afterLine (world self (now (ram .entry)) (now (queues .entry))) line .queues ⌝ }
         ensures { λ r. ⌜ Put (now (out .entry)) (now (out .exit)) at (printed (world self (now (ram .entry)) (now (queues .entry))) line) (r .end) ⌝ }
         ensures { λ _. ⌜ length (printed (world self (now (ram .entry)) (now (queues .entry))) line) ≤ 16000 ⌝ }
     {

@@ -1,13 +1,13 @@
 // The lines of an input, one after the other.
 ghost use mathlib.Core.Path.{_≡_};
-ghost use mathlib.Core.Bool.{true, false};
-ghost use Prim.Native.Nat.{ℕ, _+_, _-_, _<_, _^_};
+ghost use mathlib.Core.Bool.{true};
+ghost use mathlib.Core.List.{[]};
+ghost use Prim.Native.Nat.{_+_, _-_, _≤_, _<_, _^_};
 ghost use lib.ListN.{length, take, drop};
+ghost use lib.Seq.{sets};
 ghost use Rattle.num.specs.Lists.{part};
-ghost use Rattle.log_player.specs.declared.Next.the-variants.{Line, Rest};
 ghost use Rattle.log_player.specs.Worlds.{world};
-ghost use Rattle.log_player.specs.Steps.{nextOf};
-ghost use Rattle.log_player.specs.Runs.{hasRoom, Runs, ranTo};
+ghost use Rattle.log_player.specs.Runs.{hasRoom, spot, runFrom, ranTo, ranAs};
 use crate::Next;
 use crate::Player;
 use crate::Ran;
@@ -60,9 +60,11 @@ impl Player {
         queues: &mut [i16],
         out: &mut [u8],
     ) -> Ran
-        ensures { λ r. ⌜ Runs (world self (now (ram .entry)) (now (queues .entry))) number (drop from (now (input .entry))) (world (r .player) (now (ram .exit)) (now (queues .exit))) (r .number) (r .next) (drop (r .from) (now (input .entry))) (now (out .entry)) (now (out .exit)) (r .end) ⌝ }
-        ensures { λ r. ⌜ (r .next ≡ Rest → nextOf (drop (r .from) (now (input .entry))) (r .from) ≡ Rest) ⌝ }
-        ensures { λ r. ⌜ ((place : ℕ) → r .next ≡ Line place → hasRoom (length (now (out .entry))) (r .end) (r .number) ≡ false) ⌝ }
+        ensures { λ r. ⌜ r ≡ ranTo (runFrom (length (now (out .entry))) (now (input .entry)) (spot (world self (now (ram .entry)) (now (queues .entry))) number from [])) ⌝ }
+        ensures { λ _. ⌜ now (ram .exit) ≡ runFrom (length (now (out .entry))) (now (input .entry)) (spot (world self (now (ram .entry)) (now (queues .entry))) number from []) .world .ram ⌝ }
+        ensures { λ _. ⌜ now (queues .exit) ≡ runFrom (length (now (out .entry))) (now (input .entry)) (spot (world self (now (ram .entry)) (now (queues .entry))) number from []) .world .queues ⌝ }
+        ensures { λ _. ⌜ now (out .exit) ≡ sets (now (out .entry)) 0 (runFrom (length (now (out .entry))) (now (input .entry)) (spot (world self (now (ram .entry)) (now (queues .entry))) number from []) .text) ⌝ }
+        ensures { λ _. ⌜ length (runFrom (length (now (out .entry))) (now (input .entry)) (spot (world self (now (ram .entry)) (now (queues .entry))) number from []) .text) ≤ length (now (out .entry)) ⌝ }
     {
         let mut player = self;
         let mut place = from;
@@ -90,7 +92,7 @@ impl Player {
     }
 
     fn ran(self, next: Next, from: usize, number: u64, end: usize) -> Ran
-        ensures { λ r. ⌜ r ≡ ranTo self next from number end ⌝ }
+        ensures { λ r. ⌜ r ≡ ranAs self next from number end ⌝ }
     {
         Ran {
             player: self,

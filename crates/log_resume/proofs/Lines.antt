@@ -15,7 +15,7 @@ use Rattle.s3w2.specs.declared.Answer.{Answer}
 use Rattle.s3w2.specs.declared.Answer.the-variants.{Done, Byte, Sample, Count, Flag, RamLength, QueueBuffer, NotAccepted, StemBuffer}
 use Rattle.s3w2.specs.Registers.{readRegisterCalled, peekRegisterAnswer}
 use Rattle.log_player.specs.Worlds.{World}
-use Rattle.log_player.specs.Applied.{byteAnswered, silent, clockedPlayer, clockedText, playerAfter, ramAfter, queuesAfter, afterLine, printed}
+use Rattle.log_player.specs.Applied.{byteAnswered, silent, clockedPlayer, clockedText, effectOf, afterLine, printed}
 use Rattle.log_player.specs.Logs.{malformed}
 use Rattle.call_lists.specs.Calls as list
 use Rattle.call_lists.specs.Calls.{Call, Reply}
@@ -46,7 +46,7 @@ call-fits Malformed f = tt
 
 -- ---- what a line leaves
 pub next-same : (w : World) (l : Line) → malformed l ≡ false → machineOf (afterLine w l) ≡ code (machineOf w) (callOf l) .next
-unfolding playerAfter ramAfter queuesAfter clockedPlayer code
+unfolding effectOf clockedPlayer code
 next-same w (Write a v) e = refl
 next-same w (WriteRam a v) e = refl
 next-same w (Read a) e = refl
@@ -91,7 +91,7 @@ textOf (Version v) h = []
 textOf Malformed h = []
 
 text-same : (w : World) (l : Line) → printed w l ≡ textOf l (code (machineOf w) (callOf l) .answer)
-unfolding printed clockedText code
+unfolding effectOf clockedText code
 text-same w (Write a v) = refl
 text-same w (WriteRam a v) = refl
 text-same w (Read a) = ap (readBackLine 82 a) (byte-in (readRegisterCalled (w .player .chip) a .answer))

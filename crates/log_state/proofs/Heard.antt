@@ -12,7 +12,7 @@ use Rattle.log.specs.declared.Line.{Line}
 use Rattle.log.specs.declared.Line.the-variants.{Write, WriteRam, Read, Peek, Clock, Version, Malformed}
 use Rattle.log.specs.Texts.{commaField, pairLine, frameLine, frameLines}
 use Rattle.log_player.specs.Worlds.{World}
-use Rattle.log_player.specs.Applied.{clockedText, printed}
+use Rattle.log_player.specs.Applied.{clockedText, effectOf, printed}
 use Rattle.log_state.specs.Finding.{soundLine}
 use Rattle.log_state.specs.Loads.{behindLine, skipLines, skipped}
 use Rattle.log_state.proofs.Stated.{Goes, both, one, render-goes, Ended, size, behind-is}
@@ -99,7 +99,7 @@ clocked-skipped chip ram queues left right = frames-skipped _ _ _
 
 -- ---- what a line of a log prints
 pub printed-skipped : (w : World) (line : Line) → Skipped (printed w line)
-unfolding printed
+unfolding effectOf
 printed-skipped w (Write a v) = skip-none
 printed-skipped w (WriteRam a v) = skip-none
 printed-skipped w (Read a) = pair-skipped 82 _ _ (omega arith) read-sound

@@ -50,7 +50,7 @@ returns c =
     let found = c .before .before .before .before .before .before .before .before .before .before .collect in
     let w = c .before .before .before .write-all in
     let least = c .before .before .before .before .before .before .before .before .before .before .before .before .before .least .ensures in (
-      bursts _ _ _ _ _ _ _ _ _ (found .ensures .1) (omega (arith, found .ensures .0, least, found .kept .1 .1 .1 .1 .0)) (omega (arith, found .ensures .0, least, found .kept .1 .1 .1 .1 .1 .0)) (w .ensures),
+      bursts _ _ _ _ _ _ _ _ _ _ (found .ensures .1) (omega (arith, found .ensures .0, least, c .before .before .before .before .before .before .before .before .before .before .before .before .before .before .before .before .pre)) (omega (arith, found .ensures .0, least, found .kept .1 .1 .1 .1 .0)) (omega (arith, found .ensures .0, least, found .kept .1 .1 .1 .1 .1 .0)) (w .ensures),
       (omega arith, omega (arith, found .ensures .0, least, c .before .before .before .before .before .before .before .before .before .before .before .before .before .before .before .before .pre)),
     )
 

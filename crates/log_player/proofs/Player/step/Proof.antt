@@ -3,10 +3,11 @@ use mathlib.Core.Path.{_≡_, refl, ap, _∙_}
 use native.Mathlib.Omega.{arith}
 use lib.ListN.{drop}
 use Rattle.decimal.proofs.Writing.{put-none}
+use Rattle.log.specs.declared.Line.{Line}
 use Rattle.log.specs.Lines.{parsedLine}
 use Rattle.log_player.specs.Worlds.{world}
 use Rattle.log_player.specs.Logs.{malformed}
-use Rattle.log_player.specs.Applied.{playerAfter, ramAfter, queuesAfter}
+use Rattle.log_player.specs.Applied.{afterLine}
 use Rattle.log_player.specs.Steps.{firstLine}
 use Rattle.log_player.proofs.Stops.{next-past, next-rest, next-long, next-bad, next-line, line-part, stop-in, well-formed, step-is}
 use Rattle.log_player.proofs.Player.step.Statement.{statement}
@@ -110,7 +111,7 @@ returns-5 c =
     let done = c .before .before .before .before .before .before .before .apply .ensures in
     step-is (world (c .before .before .before .before .before .before .before .before .before .before .before .before .before .before .before .before .before .before .before .before .before .args .self) (c .before .before .before .before .before .before .before .before .before .before .before .before .before .before .before .before .before .before .before .before .before .args .ram .now) (c .before .before .before .before .before .before .before .before .before .before .before .before .before .before .before .before .before .before .before .before .before .args .queues .now)) _ _ _ _ _ _ _ _ _ _ _ _
     (next-line (c .before .before .before .before .before .before .before .before .before .before .before .before .before .before .before .before .before .before .before .before .before .args .input .now) (c .before .before .before .before .before .before .before .before .before .before .before .before .before .before .before .before .before .before .before .before .before .args .from) _ (c .before .before .before .before .before .before .before .before .before .before .before .before .before .before .before .line-end .ensures) _ (c .before .before .before .before .before .before .before .before .before .before .before .before .before .before .before .before .if1 .left) (c .before .before .before .before .before .before .before .before .before .before .before .before .before .before .if2 .left) line (well-formed (c .before .before .before .before .before .before .before .before .before .before .before .before .parse .result) (c .before .before .before .before .before .before .before .before .before .before .before .match .keys2)))
-    (c .stepped5 .ensures .1 .0, (c .stepped5 .ensures .0 ∙ done .0 ∙ ap (playerAfter w) line, (done .1 .0 ∙ ap (ramAfter w) line, (done .1 .1 .0 ∙ ap (queuesAfter w) line, rw (c .stepped5 .ensures .1 .1, ← line) (done .1 .1 .1)))))
+    (c .stepped5 .ensures .1 .0, (c .stepped5 .ensures .0 ∙ done .0 ∙ ap (λ (l : Line). afterLine w l .player) line, (done .1 .0 ∙ ap (λ (l : Line). afterLine w l .ram) line, (done .1 .1 .0 ∙ ap (λ (l : Line). afterLine w l .queues) line, rw (c .stepped5 .ensures .1 .1, ← line) (done .1 .1 .1)))))
 
 pub step-spec : {M : Type 1} → statement M
 step-spec =

@@ -2,7 +2,7 @@ use borrow.Author.Needs.{needs}
 use mathlib.Core.Path.{_≡_, refl, sym, ap, _∙_}
 use Prim.Native.Nat.{_-_, _≤_}
 use native.Mathlib.Omega.{arith}
-use lib.ListN.{length, drop, length-set}
+use lib.ListN.{length, length-set}
 use Rattle.log.specs.Lines.{parsedLine}
 use Rattle.log_player.specs.Bursts.{Collects}
 use Rattle.log_player.proofs.Stops.{line-part}
@@ -12,13 +12,13 @@ use Rattle.log_player.proofs.bursts.collect.Tie as tie
 
 abbrev Inv-loop : tie.InvT-loop
 Inv-loop input from most to-ram addresses₀ values₀ count₀ place₀ addresses values count place =
-    (count ≤ most) × (length addresses ≡ length addresses₀) × (length values ≡ length values₀) × Collects to-ram (drop from input) (drop place input) count addresses values
+    (count ≤ most) × (length addresses ≡ length addresses₀) × (length values ≡ length values₀) × Collects to-ram input from place count addresses values
 
 abbrev μ-loop : tie.MeasureT-loop
 μ-loop input from most to-ram addresses₀ values₀ count₀ place₀ addresses values count place = most - count
 
 loop-holds : tie.Need-loop-holds Inv-loop μ-loop
-loop-holds c = (omega arith, refl, refl, collects-none _ _ _ _)
+loop-holds c = (omega arith, refl, refl, collects-none _ _ _ _ _)
 
 line-end-requires : tie.Need-line-end-requires Inv-loop μ-loop
 line-end-requires c κs = search needs
@@ -90,7 +90,7 @@ loop-again c =
       omega arith,
       simp length-set (l .inv .1),
       simp length-set (l .inv .2),
-      collects-more _ _ (a .input .now) (l .place) (stop .result) _ _ _ _ _ (l .inv .3) (stop .ensures) (omega arith) line (omega (arith, l .inv .1)) (omega (arith, l .inv .2)),
+      collects-more _ (a .input .now) _ (l .place) (stop .result) _ _ _ _ _ (l .inv .3) (stop .ensures) (omega arith) line (omega (arith, l .inv .1)) (omega (arith, l .inv .2)),
     )
 
 same-length-5 : tie.Need-same-length-5 Inv-loop μ-loop

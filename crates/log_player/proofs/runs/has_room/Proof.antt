@@ -1,7 +1,7 @@
 use mathlib.Core.Path.{sym}
 use native.Mathlib.Omega.{arith}
 use Rattle.num.proofs.Choice.{never}
-use Rattle.log_player.proofs.Running.{room-none, room-past, room-left}
+use Rattle.log_player.proofs.Rooms.{room-none, room-past, room-left}
 use Rattle.log_player.proofs.runs.has_room.Statement.{statement}
 use Rattle.log_player.proofs.runs.has_room.Tie as tie
 
