@@ -3,4 +3,5 @@ pub mod Applied
 pub mod Logs
 pub mod Steps
 pub mod Runs
+pub mod Parts
 pub mod Bursts
