@@ -6,7 +6,9 @@ ghost use lib.IntN.{ℤ, pos, natAbs};
 ghost use lib.ListN.{getD};
 ghost use Rattle.num.specs.Bytes.{field};
 ghost use Rattle.adpcm.specs.Ima.{stepSizes, stepSize, indexTable, difference as imaDifference, indexAfter};
-ghost use Rattle.adpcm.specs.Codes.{variantOf, bitsOf, payloadBytes, fragmentSize, legacyFragmentSize, levelsOf, levelIndexes, levelDifference, deltaAt, deltaOf, adjustOf, updateOf, decodeAt, decodeCode, appliedVolume, legacyVolume, overlaid, codeAt};
+ghost use Rattle.adpcm.specs.Codes.{variantOf, bitsOf, payloadBytes, fragmentSize, legacyFragmentSize, levelsOf, levelIndexes};
+ghost use Rattle.adpcm.specs.Codes.{levelDifference, deltaAt, deltaOf, adjustOf, updateOf, decodeAt, decodeCode, appliedVolume};
+ghost use Rattle.adpcm.specs.Codes.{legacyVolume, overlaid, codeAt};
 
 pub enum Variant {
     H,
@@ -118,6 +120,7 @@ const STEPS: [u16; 89] = [
 ];
 
 impl Variant {
+    // The variant of a header's byte, or none.
     pub fn try_from(value: u8) -> VariantByte
         ensures { λ r. ⌜ r ≡ variantOf value ⌝ }
     {
@@ -129,6 +132,7 @@ impl Variant {
         }
     }
 
+    // The bits of a code.
     pub fn bits(self) -> usize
         ensures { λ r. ⌜ r ≡ bitsOf self ⌝ }
     {

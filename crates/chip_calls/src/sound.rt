@@ -6,18 +6,23 @@ ghost use Rattle.chip_calls.specs.Code.{AsCode};
 use s3w2::Called;
 use s3w2::Chip;
 
+// As `Chip::generate_sample`.
 pub fn generate_sample(chip: Chip, ram: &[u8], queues: &mut [i16], ch: usize) -> Called
-    ensures code { λ r. ⌜ AsCode (machine chip (now (ram .entry)) (now (queues .entry))) (list.generateSample ch) r (now (ram .entry)) (now (queues .exit)) [] ⌝ }
+    ensures code { λ r. ⌜ AsCode (machine chip (now (ram .entry)) (now (queues .entry))) (list.generateSample ch) r (now (ram .entry))
+        (now (queues .exit)) [] ⌝ }
 {
     chip.generate_sample(ram, queues, ch)
 }
 
+// As `Chip::clock`.
 pub fn clock(chip: Chip, ram: &[u8], queues: &mut [i16], frames: usize, stems: &mut [i16]) -> Called
-    ensures code { λ r. ⌜ AsCode (machine chip (now (ram .entry)) (now (queues .entry))) (list.clock frames (now (stems .entry))) r (now (ram .entry)) (now (queues .exit)) (now (stems .exit) ∷ []) ⌝ }
+    ensures code { λ r. ⌜ AsCode (machine chip (now (ram .entry)) (now (queues .entry))) (list.clock frames (now (stems .entry))) r
+        (now (ram .entry)) (now (queues .exit)) (now (stems .exit) ∷ []) ⌝ }
 {
     chip.clock(ram, queues, frames, stems)
 }
 
+// As `Chip::clock_mixed`.
 pub fn clock_mixed(
     chip: Chip,
     ram: &[u8],
@@ -25,11 +30,14 @@ pub fn clock_mixed(
     left: &mut [i16],
     right: &mut [i16],
 ) -> Called
-    ensures code { λ r. ⌜ AsCode (machine chip (now (ram .entry)) (now (queues .entry))) (list.clockMixed (now (left .entry)) (now (right .entry))) r (now (ram .entry)) (now (queues .exit)) (now (left .exit) ∷ now (right .exit) ∷ []) ⌝ }
+    ensures code { λ r. ⌜ AsCode (machine chip (now (ram .entry)) (now (queues .entry)))
+        (list.clockMixed (now (left .entry)) (now (right .entry))) r (now (ram .entry)) (now (queues .exit))
+        (now (left .exit) ∷ now (right .exit) ∷ []) ⌝ }
 {
     chip.clock_mixed(ram, queues, left, right)
 }
 
+// As `Chip::clock_mixed_into`.
 pub fn clock_mixed_into(
     chip: Chip,
     ram: &[u8],
@@ -37,11 +45,14 @@ pub fn clock_mixed_into(
     left: &mut [i16],
     right: &mut [i16],
 ) -> Called
-    ensures code { λ r. ⌜ AsCode (machine chip (now (ram .entry)) (now (queues .entry))) (list.clockMixedInto (now (left .entry)) (now (right .entry))) r (now (ram .entry)) (now (queues .exit)) (now (left .exit) ∷ now (right .exit) ∷ []) ⌝ }
+    ensures code { λ r. ⌜ AsCode (machine chip (now (ram .entry)) (now (queues .entry)))
+        (list.clockMixedInto (now (left .entry)) (now (right .entry))) r (now (ram .entry)) (now (queues .exit))
+        (now (left .exit) ∷ now (right .exit) ∷ []) ⌝ }
 {
     chip.clock_mixed_into(ram, queues, left, right)
 }
 
+// As `Chip::clock_mixed_into_i32`.
 pub fn clock_mixed_into_i32(
     chip: Chip,
     ram: &[u8],
@@ -49,7 +60,9 @@ pub fn clock_mixed_into_i32(
     left: &mut [i32],
     right: &mut [i32],
 ) -> Called
-    ensures code { λ r. ⌜ AsCode (machine chip (now (ram .entry)) (now (queues .entry))) (list.clockMixedIntoI32 (now (left .entry)) (now (right .entry))) r (now (ram .entry)) (now (queues .exit)) (now (left .exit) ∷ now (right .exit) ∷ []) ⌝ }
+    ensures code { λ r. ⌜ AsCode (machine chip (now (ram .entry)) (now (queues .entry)))
+        (list.clockMixedIntoI32 (now (left .entry)) (now (right .entry))) r (now (ram .entry)) (now (queues .exit))
+        (now (left .exit) ∷ now (right .exit) ∷ []) ⌝ }
 {
     chip.clock_mixed_into_i32(ram, queues, left, right)
 }

@@ -9,42 +9,54 @@ use s3w2::Called;
 use s3w2::Chip;
 use version::SguVersion;
 
+// As `Chip::reset`.
 pub fn reset(chip: Chip, ram: &mut [u8], queues: &[i16]) -> Called
     ensures code { λ r. ⌜ AsCode (machine chip (now (ram .entry)) (now (queues .entry))) list.reset r (now (ram .exit)) (now (queues .entry)) [] ⌝ }
 {
     chip.reset(ram)
 }
 
+// As `Chip::set_version`.
 pub fn set_version(chip: Chip, ram: &[u8], queues: &[i16], version: SguVersion) -> Called
-    ensures code { λ r. ⌜ AsCode (machine chip (now (ram .entry)) (now (queues .entry))) (list.setVersion version) r (now (ram .entry)) (now (queues .entry)) [] ⌝ }
+    ensures code { λ r. ⌜ AsCode (machine chip (now (ram .entry)) (now (queues .entry))) (list.setVersion version) r (now (ram .entry))
+        (now (queues .entry)) [] ⌝ }
 {
     chip.set_version(version)
 }
 
+// As `Chip::reset_channel`.
 pub fn reset_channel(chip: Chip, ram: &[u8], queues: &[i16], ch: usize) -> Called
-    ensures code { λ r. ⌜ AsCode (machine chip (now (ram .entry)) (now (queues .entry))) (list.resetChannel ch) r (now (ram .entry)) (now (queues .entry)) [] ⌝ }
+    ensures code { λ r. ⌜ AsCode (machine chip (now (ram .entry)) (now (queues .entry))) (list.resetChannel ch) r (now (ram .entry))
+        (now (queues .entry)) [] ⌝ }
 {
     chip.reset_channel(ch)
 }
 
+// As `Chip::write_register`.
 pub fn write_register(chip: Chip, ram: &[u8], queues: &mut [i16], address: u32, value: u8) -> Called
-    ensures code { λ r. ⌜ AsCode (machine chip (now (ram .entry)) (now (queues .entry))) (list.writeRegister address value) r (now (ram .entry)) (now (queues .exit)) [] ⌝ }
+    ensures code { λ r. ⌜ AsCode (machine chip (now (ram .entry)) (now (queues .entry))) (list.writeRegister address value) r (now (ram .entry))
+        (now (queues .exit)) [] ⌝ }
 {
     chip.write_register(queues, address, value)
 }
 
+// As `Chip::read_register`.
 pub fn read_register(chip: Chip, ram: &[u8], queues: &[i16], address: u32) -> Called
-    ensures code { λ r. ⌜ AsCode (machine chip (now (ram .entry)) (now (queues .entry))) (list.readRegister address) r (now (ram .entry)) (now (queues .entry)) [] ⌝ }
+    ensures code { λ r. ⌜ AsCode (machine chip (now (ram .entry)) (now (queues .entry))) (list.readRegister address) r (now (ram .entry))
+        (now (queues .entry)) [] ⌝ }
 {
     chip.read_register(address)
 }
 
+// As `Chip::peek_register`.
 pub fn peek_register(chip: Chip, ram: &[u8], queues: &[i16], address: u32) -> Answer
-    ensures code { λ r. ⌜ AsCode (machine chip (now (ram .entry)) (now (queues .entry))) (list.peekRegister address) (answered chip r) (now (ram .entry)) (now (queues .entry)) [] ⌝ }
+    ensures code { λ r. ⌜ AsCode (machine chip (now (ram .entry)) (now (queues .entry))) (list.peekRegister address) (answered chip r)
+        (now (ram .entry)) (now (queues .entry)) [] ⌝ }
 {
     chip.peek_register(address)
 }
 
+// As `Chip::write_channel_control`.
 pub fn write_channel_control(
     chip: Chip,
     ram: &[u8],
@@ -53,17 +65,21 @@ pub fn write_channel_control(
     offset: u8,
     value: u8,
 ) -> Called
-    ensures code { λ r. ⌜ AsCode (machine chip (now (ram .entry)) (now (queues .entry))) (list.writeChannelControl ch offset value) r (now (ram .entry)) (now (queues .exit)) [] ⌝ }
+    ensures code { λ r. ⌜ AsCode (machine chip (now (ram .entry)) (now (queues .entry))) (list.writeChannelControl ch offset value) r
+        (now (ram .entry)) (now (queues .exit)) [] ⌝ }
 {
     chip.write_channel_control(queues, ch, offset, value)
 }
 
+// As `Chip::read_channel_control`.
 pub fn read_channel_control(chip: Chip, ram: &[u8], queues: &[i16], ch: usize, offset: u8) -> Called
-    ensures code { λ r. ⌜ AsCode (machine chip (now (ram .entry)) (now (queues .entry))) (list.readChannelControl ch offset) r (now (ram .entry)) (now (queues .entry)) [] ⌝ }
+    ensures code { λ r. ⌜ AsCode (machine chip (now (ram .entry)) (now (queues .entry))) (list.readChannelControl ch offset) r (now (ram .entry))
+        (now (queues .entry)) [] ⌝ }
 {
     chip.read_channel_control(ch, offset)
 }
 
+// As `Chip::write_channel_pcm_reg`.
 pub fn write_channel_pcm_reg(
     chip: Chip,
     ram: &[u8],
@@ -72,17 +88,21 @@ pub fn write_channel_pcm_reg(
     offset: u8,
     value: u8,
 ) -> Called
-    ensures code { λ r. ⌜ AsCode (machine chip (now (ram .entry)) (now (queues .entry))) (list.writeChannelPcmReg ch offset value) r (now (ram .entry)) (now (queues .entry)) [] ⌝ }
+    ensures code { λ r. ⌜ AsCode (machine chip (now (ram .entry)) (now (queues .entry))) (list.writeChannelPcmReg ch offset value) r
+        (now (ram .entry)) (now (queues .entry)) [] ⌝ }
 {
     chip.write_channel_pcm_reg(ch, offset, value)
 }
 
+// As `Chip::read_channel_pcm_reg`.
 pub fn read_channel_pcm_reg(chip: Chip, ram: &[u8], queues: &[i16], ch: usize, offset: u8) -> Answer
-    ensures code { λ r. ⌜ AsCode (machine chip (now (ram .entry)) (now (queues .entry))) (list.readChannelPcmReg ch offset) (answered chip r) (now (ram .entry)) (now (queues .entry)) [] ⌝ }
+    ensures code { λ r. ⌜ AsCode (machine chip (now (ram .entry)) (now (queues .entry))) (list.readChannelPcmReg ch offset) (answered chip r)
+        (now (ram .entry)) (now (queues .entry)) [] ⌝ }
 {
     chip.read_channel_pcm_reg(ch, offset)
 }
 
+// As `Chip::write_channel_wavetable`.
 pub fn write_channel_wavetable(
     chip: Chip,
     ram: &[u8],
@@ -91,11 +111,13 @@ pub fn write_channel_wavetable(
     offset: u8,
     value: u8,
 ) -> Called
-    ensures code { λ r. ⌜ AsCode (machine chip (now (ram .entry)) (now (queues .entry))) (list.writeChannelWavetable ch offset value) r (now (ram .entry)) (now (queues .entry)) [] ⌝ }
+    ensures code { λ r. ⌜ AsCode (machine chip (now (ram .entry)) (now (queues .entry))) (list.writeChannelWavetable ch offset value) r
+        (now (ram .entry)) (now (queues .entry)) [] ⌝ }
 {
     chip.write_channel_wavetable(ch, offset, value)
 }
 
+// As `Chip::read_channel_wavetable`.
 pub fn read_channel_wavetable(
     chip: Chip,
     ram: &[u8],
@@ -103,31 +125,40 @@ pub fn read_channel_wavetable(
     ch: usize,
     offset: u8,
 ) -> Answer
-    ensures code { λ r. ⌜ AsCode (machine chip (now (ram .entry)) (now (queues .entry))) (list.readChannelWavetable ch offset) (answered chip r) (now (ram .entry)) (now (queues .entry)) [] ⌝ }
+    ensures code { λ r. ⌜ AsCode (machine chip (now (ram .entry)) (now (queues .entry))) (list.readChannelWavetable ch offset) (answered chip r)
+        (now (ram .entry)) (now (queues .entry)) [] ⌝ }
 {
     chip.read_channel_wavetable(ch, offset)
 }
 
+// As `Chip::wavetable_length`.
 pub fn wavetable_length(chip: Chip, ram: &[u8], queues: &[i16], ch: usize) -> Answer
-    ensures code { λ r. ⌜ AsCode (machine chip (now (ram .entry)) (now (queues .entry))) (list.wavetableLength ch) (answered chip r) (now (ram .entry)) (now (queues .entry)) [] ⌝ }
+    ensures code { λ r. ⌜ AsCode (machine chip (now (ram .entry)) (now (queues .entry))) (list.wavetableLength ch) (answered chip r)
+        (now (ram .entry)) (now (queues .entry)) [] ⌝ }
 {
     chip.wavetable_length(ch)
 }
 
+// As `Chip::interpolates`.
 pub fn interpolates(chip: Chip, ram: &[u8], queues: &[i16], ch: usize) -> Answer
-    ensures code { λ r. ⌜ AsCode (machine chip (now (ram .entry)) (now (queues .entry))) (list.interpolates ch) (answered chip r) (now (ram .entry)) (now (queues .entry)) [] ⌝ }
+    ensures code { λ r. ⌜ AsCode (machine chip (now (ram .entry)) (now (queues .entry))) (list.interpolates ch) (answered chip r)
+        (now (ram .entry)) (now (queues .entry)) [] ⌝ }
 {
     chip.interpolates(ch)
 }
 
+// As `Chip::write_pcm_ram`.
 pub fn write_pcm_ram(chip: Chip, ram: &mut [u8], queues: &[i16], address: u32, value: u8) -> Called
-    ensures code { λ r. ⌜ AsCode (machine chip (now (ram .entry)) (now (queues .entry))) (list.writePcmRam address value) r (now (ram .exit)) (now (queues .entry)) [] ⌝ }
+    ensures code { λ r. ⌜ AsCode (machine chip (now (ram .entry)) (now (queues .entry))) (list.writePcmRam address value) r (now (ram .exit))
+        (now (queues .entry)) [] ⌝ }
 {
     chip.write_pcm_ram(ram, address, value)
 }
 
+// As `Chip::read_pcm_ram`.
 pub fn read_pcm_ram(chip: Chip, ram: &[u8], queues: &[i16], address: u32) -> Answer
-    ensures code { λ r. ⌜ AsCode (machine chip (now (ram .entry)) (now (queues .entry))) (list.readPcmRam address) (answered chip r) (now (ram .entry)) (now (queues .entry)) [] ⌝ }
+    ensures code { λ r. ⌜ AsCode (machine chip (now (ram .entry)) (now (queues .entry))) (list.readPcmRam address) (answered chip r)
+        (now (ram .entry)) (now (queues .entry)) [] ⌝ }
 {
     chip.read_pcm_ram(ram, address)
 }

@@ -2,7 +2,8 @@
 ghost use mathlib.Core.Path.{_≡_};
 ghost use Prim.Native.Nat.{_≤_, _<_, _-_};
 ghost use lib.Seq.{sets};
-ghost use Rattle.line_fields.specs.Reading.{naturalOf, sampleOf16, fieldAt, endsAt, partAt, partsAt, closedAt, queuePartAt, readLine, numbersIn, partsOf, closeOf, queueFields, fieldsOf, lineNumbers};
+ghost use Rattle.line_fields.specs.Reading.{naturalOf, sampleOf16, fieldAt, endsAt, partAt, partsAt, closedAt, queuePartAt};
+ghost use Rattle.line_fields.specs.Reading.{readLine, numbersIn, partsOf, closeOf, queueFields, fieldsOf, lineNumbers};
 use crate::Fields;
 use crate::Part;
 use crate::Parts;
@@ -97,8 +98,9 @@ fn take_parts(
     numbers: &mut [u64],
 ) -> Parts
     requires { ⌜ to ≤ 2330 ⌝ }
-    ensures { λ r. ⌜ r ≡ partsOf (partsAt fifo (now (text .entry)) (to - from) from at) ⌝ }
-    ensures { λ r. ⌜ now (numbers .exit) ≡ sets (now (numbers .entry)) from (numbersIn (partsAt fifo (now (text .entry)) (to - from) from at)) ⌝ }
+    ensures result { λ r. ⌜ r ≡ partsOf (partsAt fifo (now (text .entry)) (to - from) from at) ⌝ }
+    ensures numbers { λ r. ⌜ now (numbers .exit)
+        ≡ sets (now (numbers .entry)) from (numbersIn (partsAt fifo (now (text .entry)) (to - from) from at)) ⌝ }
 {
     let mut end = at;
     let mut k = from;
@@ -146,8 +148,8 @@ fn close(text: &[u8], taken: Parts, count: usize) -> Fields
 
 // The queue's count and samples, and the line's end.
 fn read_queue(fifo: bool, text: &[u8], at: usize, numbers: &mut [u64]) -> Fields
-    ensures { λ r. ⌜ r ≡ queueFields (now (text .entry)) (queuePartAt fifo (now (text .entry)) at) ⌝ }
-    ensures { λ r. ⌜ now (numbers .exit) ≡ sets (now (numbers .entry)) 281 (numbersIn (queuePartAt fifo (now (text .entry)) at)) ⌝ }
+    ensures result { λ r. ⌜ r ≡ queueFields (now (text .entry)) (queuePartAt fifo (now (text .entry)) at) ⌝ }
+    ensures numbers { λ r. ⌜ now (numbers .exit) ≡ sets (now (numbers .entry)) 281 (numbersIn (queuePartAt fifo (now (text .entry)) at)) ⌝ }
 {
     let part = part_at(fifo, 281, text, at);
     match part {
@@ -163,8 +165,8 @@ fn read_queue(fifo: bool, text: &[u8], at: usize, numbers: &mut [u64]) -> Fields
 
 // Reads a voice line: its numbers, as far as they are in order, are put into a buffer as far as there is room.
 pub fn read_line(fifo: bool, text: &[u8], numbers: &mut [u64]) -> Fields
-    ensures { λ r. ⌜ r ≡ fieldsOf (readLine fifo (now (text .entry))) ⌝ }
-    ensures { λ r. ⌜ now (numbers .exit) ≡ sets (now (numbers .entry)) 0 (lineNumbers (readLine fifo (now (text .entry)))) ⌝ }
+    ensures result { λ r. ⌜ r ≡ fieldsOf (readLine fifo (now (text .entry))) ⌝ }
+    ensures numbers { λ r. ⌜ now (numbers .exit) ≡ sets (now (numbers .entry)) 0 (lineNumbers (readLine fifo (now (text .entry)))) ⌝ }
 {
     let first = take_parts(fifo, text, 0, 0, 281, numbers);
     match first {

@@ -83,6 +83,7 @@ pub fn number_at(numbers: &[u64], k: usize) -> u64
     if k < numbers.len() { numbers[k] } else { 0 }
 }
 
+// Puts a field's number at its place, if there is one.
 pub fn put_number(numbers: &mut [u64], k: usize, number: u64)
     ensures { λ r. ⌜ now (numbers .exit) ≡ set (now (numbers .entry)) k number ⌝ }
 {

@@ -79,8 +79,8 @@ pub fn put_line(numbers: &[u64], out: &mut [u8]) -> usize
 
 // Writes the line of some numbers, if there is room for it.
 pub fn write_line(numbers: &[u64], out: &mut [u8]) -> Written
-    ensures { λ r. ⌜ r ≡ writtenOf (now (out .entry)) (lineText (now (numbers .entry))) ⌝ }
-    ensures { λ r. ⌜ now (out .exit) ≡ putOf (now (out .entry)) (lineText (now (numbers .entry))) ⌝ }
+    ensures result { λ r. ⌜ r ≡ writtenOf (now (out .entry)) (lineText (now (numbers .entry))) ⌝ }
+    ensures out { λ r. ⌜ now (out .exit) ≡ putOf (now (out .entry)) (lineText (now (numbers .entry))) ⌝ }
 {
     if fits(numbers, out.len()) {
         return Written::Length(put_line(numbers, out));

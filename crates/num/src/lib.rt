@@ -8,6 +8,7 @@ ghost use mir.Val.{toZ, ofZ};
 ghost use Rattle.num.specs.Integers.{clamp16 as clamped16, signed};
 ghost use Rattle.num.specs.Lists.{part as partOf};
 
+// The smaller of two.
 pub fn least(a: usize, b: usize) -> usize
     ensures { λ r. ⌜ r ≡ min a b ⌝ }
 {
@@ -27,7 +28,7 @@ pub fn magnitude(x: i32) -> u32
 
 // A size with a sign.
 pub fn with_sign(negative: bool, size: u16) -> i32
-    ensures { λ r. ⌜ r ≡ signed negative size ⌝ }
+    ensures result { λ r. ⌜ r ≡ signed negative size ⌝ }
     ensures { λ r. ⌜ natAbs r < 2 ^ 16 ⌝ }
 {
     let n = size as i32;
@@ -58,6 +59,7 @@ pub fn signed16(bits: u16) -> i16
     }
 }
 
+// The 16 bits of a signed number.
 pub fn bits16(x: i16) -> u16
     ensures { λ r. ⌜ r ≡ ofZ w16 x ⌝ }
 {

@@ -1,7 +1,8 @@
 // The control registers at their offsets.
 ghost use mathlib.Core.Path.{_≡_};
 ghost use Prim.Native.Nat.{_<_};
-ghost use Rattle.registers.specs.Control.{defaultRegisters, setWaveform, setModulation, targetChannel, writeRegisters, modulationByte, readRegisters, acceptsRegisters};
+ghost use Rattle.registers.specs.Control.{defaultRegisters, setWaveform, setModulation, targetChannel, writeRegisters};
+ghost use Rattle.registers.specs.Control.{modulationByte, readRegisters, acceptsRegisters};
 use crate::ModulationType;
 use crate::Registers;
 use crate::WaveformType;
@@ -10,6 +11,7 @@ use crate::bytes::with_byte_16;
 use version::SguVersion;
 
 impl Registers {
+    // A fresh voice's control registers.
     pub fn default() -> Registers
         ensures { λ r. ⌜ r ≡ defaultRegisters ⌝ }
     {
@@ -26,6 +28,7 @@ impl Registers {
         }
     }
 
+    // The registers with another waveform.
     pub fn with_waveform(self, waveform_type: WaveformType) -> Registers
         ensures { λ r. ⌜ r ≡ setWaveform self «waveform_type» ⌝ }
     {
@@ -99,6 +102,7 @@ impl Registers {
         self
     }
 
+    // Modulation type and target as they are read back.
     pub fn modulation_byte(self) -> u8
         ensures { λ r. ⌜ r ≡ modulationByte self ⌝ }
     {
@@ -106,6 +110,7 @@ impl Registers {
         (modulation.number() << 3) | (self.modulation_target & 7)
     }
 
+    // The byte that an offset reads.
     pub fn read(self, offset: u8) -> u8
         ensures { λ r. ⌜ r ≡ readRegisters self offset ⌝ }
     {
@@ -123,6 +128,7 @@ impl Registers {
         }
     }
 
+    // Whether the registers are those of an accepted state.
     pub fn accepts(self, version: SguVersion) -> bool
         ensures { λ r. ⌜ r ≡ acceptsRegisters self version ⌝ }
     {

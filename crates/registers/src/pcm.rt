@@ -6,6 +6,7 @@ use crate::bytes::byte;
 use crate::bytes::with_byte;
 
 impl PcmRegisters {
+    // A fresh voice's PCM registers.
     pub fn default() -> PcmRegisters
         ensures { λ r. ⌜ r ≡ defaultPcm ⌝ }
     {
@@ -19,6 +20,7 @@ impl PcmRegisters {
         }
     }
 
+    // The registers with a byte written at an offset.
     pub fn write(mut self, offset: u8, value: u8) -> PcmRegisters
         ensures { λ r. ⌜ r ≡ writePcm self offset value ⌝ }
     {
@@ -35,6 +37,7 @@ impl PcmRegisters {
         self
     }
 
+    // The byte that an offset reads.
     pub fn read(self, offset: u8) -> u8
         ensures { λ r. ⌜ r ≡ readPcm self offset ⌝ }
     {
@@ -47,6 +50,7 @@ impl PcmRegisters {
         }
     }
 
+    // Whether the registers are those of an accepted state.
     pub fn accepts(self) -> bool
         ensures { λ r. ⌜ r ≡ acceptsPcm self ⌝ }
     {

@@ -5,6 +5,7 @@ use crate::Fifo;
 use sizes::FIFO_CAPACITY;
 
 impl Fifo {
+    // An empty queue.
     pub fn default() -> Fifo
         ensures { λ r. ⌜ r ≡ defaultFifo ⌝ }
     {
@@ -35,8 +36,8 @@ impl Fifo {
 
     // The oldest sample is taken and held, if there is one.
     pub fn pop(mut self, queue: &mut [i16], frequency: u16) -> Fifo
-        ensures { λ r. ⌜ r ≡ popped self (now (queue .entry)) frequency ⌝ }
-        ensures { λ _. ⌜ now (queue .exit) ≡ now (queue .entry) ⌝ }
+        ensures result { λ r. ⌜ r ≡ popped self (now (queue .entry)) frequency ⌝ }
+        ensures queue { λ _. ⌜ now (queue .exit) ≡ now (queue .entry) ⌝ }
     {
         let count = self.count;
         if count == 0 {
@@ -53,8 +54,8 @@ impl Fifo {
 
     // The first tick of a frame: a new sample once the held one has lasted.
     pub fn advance(mut self, queue: &mut [i16], frequency: u16) -> Fifo
-        ensures { λ r. ⌜ r ≡ advanced self (now (queue .entry)) frequency ⌝ }
-        ensures { λ _. ⌜ now (queue .exit) ≡ now (queue .entry) ⌝ }
+        ensures result { λ r. ⌜ r ≡ advanced self (now (queue .entry)) frequency ⌝ }
+        ensures queue { λ _. ⌜ now (queue .exit) ≡ now (queue .entry) ⌝ }
     {
         let hold = self.hold;
         if hold == 0 {
@@ -64,9 +65,10 @@ impl Fifo {
         self
     }
 
+    // A tick: four are a frame, and the first of them may take a new sample.
     pub fn tick(self, queue: &mut [i16], frequency: u16) -> Fifo
-        ensures { λ r. ⌜ r ≡ ticked self (now (queue .entry)) frequency ⌝ }
-        ensures { λ _. ⌜ now (queue .exit) ≡ now (queue .entry) ⌝ }
+        ensures result { λ r. ⌜ r ≡ ticked self (now (queue .entry)) frequency ⌝ }
+        ensures queue { λ _. ⌜ now (queue .exit) ≡ now (queue .entry) ⌝ }
     {
         let sub = self.sub;
         let mut f = self;
@@ -77,6 +79,7 @@ impl Fifo {
         f
     }
 
+    // Whether the queue is that of an accepted state.
     pub fn accepts(self) -> bool
         ensures { λ r. ⌜ r ≡ acceptsFifo self ⌝ }
     {

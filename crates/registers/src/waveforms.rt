@@ -1,11 +1,13 @@
 // Waveforms and modulations, and their numbers.
 ghost use mathlib.Core.Path.{_≡_};
-ghost use Rattle.registers.specs.Waveforms.{waveformFrom, waveformNumber, isSqv4, under as waveformUnder, modulationFrom, modulationNumber, hasTarget, isPhase};
+ghost use Rattle.registers.specs.Waveforms.{waveformFrom, waveformNumber, isSqv4, under as waveformUnder, modulationFrom};
+ghost use Rattle.registers.specs.Waveforms.{modulationNumber, hasTarget, isPhase};
 use crate::ModulationType;
 use crate::WaveformType;
 use version::SguVersion;
 
 impl WaveformType {
+    // The waveform of a register's number.
     pub fn from(value: u8) -> WaveformType
         ensures { λ r. ⌜ r ≡ waveformFrom value ⌝ }
     {
@@ -19,6 +21,7 @@ impl WaveformType {
         }
     }
 
+    // The number of a waveform.
     pub fn number(self) -> u8
         ensures { λ r. ⌜ r ≡ waveformNumber self ⌝ }
     {
@@ -32,6 +35,7 @@ impl WaveformType {
         }
     }
 
+    // Whether the voice plays a stream.
     pub fn is_sqv4(self) -> bool
         ensures { λ r. ⌜ r ≡ isSqv4 self ⌝ }
     {
@@ -64,6 +68,7 @@ impl WaveformType {
 }
 
 impl ModulationType {
+    // The modulation of a register's number.
     pub fn from(value: u8) -> ModulationType
         ensures { λ r. ⌜ r ≡ modulationFrom value ⌝ }
     {
@@ -93,6 +98,7 @@ impl ModulationType {
         }
     }
 
+    // Whether the modulation is that of the phase.
     pub fn is_phase(self) -> bool
         ensures { λ r. ⌜ r ≡ isPhase self ⌝ }
     {
@@ -107,6 +113,7 @@ impl ModulationType {
         }
     }
 
+    // The number of a modulation.
     pub fn number(self) -> u8
         ensures { λ r. ⌜ r ≡ modulationNumber self ⌝ }
     {

@@ -9,9 +9,10 @@ use crate::answers::told;
 use s3w2::Chip;
 use session_lines::HeadLine;
 
+// Writes the head line.
 pub fn write_head(chip: Chip, out: &mut [u8]) -> LineAnswer
-    ensures { λ r. ⌜ r ≡ writeHeadAnswer chip (now (out .entry)) ⌝ }
-    ensures { λ _. ⌜ now (out .exit) ≡ writeHeadText chip (now (out .entry)) ⌝ }
+    ensures answer { λ r. ⌜ r ≡ writeHeadAnswer chip (now (out .entry)) ⌝ }
+    ensures out { λ _. ⌜ now (out .exit) ≡ writeHeadText chip (now (out .entry)) ⌝ }
 {
     if !accepted(chip) {
         return LineAnswer::NotAccepted;

@@ -17,8 +17,8 @@ use sizes::QUEUE_BUFFER;
 // The line is read into voice ch, which is lent its own wavetable and queue entries; its fragments stay, its cache is empty.
 fn load(chip: Chip, queues: &mut [i16], ch: usize, text: &[u8]) -> Chip
     requires { ⌜ (ch < numChannels) × (length (now queues) ≡ queueBuffer) ⌝ }
-    ensures { λ r. ⌜ r ≡ loadedChip chip ch (readVoice (chip .version) (now (text .entry))) ⌝ }
-    ensures { λ _. ⌜ now (queues .exit) ≡ loadedQueues (now (queues .entry)) ch (readVoice (chip .version) (now (text .entry))) ⌝ }
+    ensures result { λ r. ⌜ r ≡ loadedChip chip ch (readVoice (chip .version) (now (text .entry))) ⌝ }
+    ensures queues { λ _. ⌜ now (queues .exit) ≡ loadedQueues (now (queues .entry)) ch (readVoice (chip .version) (now (text .entry))) ⌝ }
 {
     let version = chip.version;
     let mut core = chip.core;
@@ -43,8 +43,8 @@ fn load(chip: Chip, queues: &mut [i16], ch: usize, text: &[u8]) -> Chip
 
 // Sets the voice that the line's first field names.
 pub fn read_voice(chip: Chip, queues: &mut [i16], text: &[u8]) -> LineCalled
-    ensures { λ r. ⌜ r ≡ readVoiceCalled chip (now (queues .entry)) (now (text .entry)) ⌝ }
-    ensures { λ _. ⌜ now (queues .exit) ≡ readVoiceQueues chip (now (queues .entry)) (now (text .entry)) ⌝ }
+    ensures called { λ r. ⌜ r ≡ readVoiceCalled chip (now (queues .entry)) (now (text .entry)) ⌝ }
+    ensures queues { λ _. ⌜ now (queues .exit) ≡ readVoiceQueues chip (now (queues .entry)) (now (text .entry)) ⌝ }
 {
     if queues.len() != QUEUE_BUFFER {
         return answers(chip, LineAnswer::QueueBuffer);

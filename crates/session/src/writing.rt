@@ -11,8 +11,8 @@ use sizes::QUEUE_BUFFER;
 
 // No voice above 7 has a line.
 pub fn write_voice(chip: Chip, queues: &[i16], ch: usize, out: &mut [u8]) -> LineAnswer
-    ensures { λ r. ⌜ r ≡ writeVoiceAnswer chip (now (queues .entry)) ch (now (out .entry)) ⌝ }
-    ensures { λ _. ⌜ now (out .exit) ≡ writeVoiceText chip (now (queues .entry)) ch (now (out .entry)) ⌝ }
+    ensures answer { λ r. ⌜ r ≡ writeVoiceAnswer chip (now (queues .entry)) ch (now (out .entry)) ⌝ }
+    ensures out { λ _. ⌜ now (out .exit) ≡ writeVoiceText chip (now (queues .entry)) ch (now (out .entry)) ⌝ }
 {
     if queues.len() != QUEUE_BUFFER {
         return LineAnswer::QueueBuffer;

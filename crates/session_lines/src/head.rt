@@ -9,8 +9,8 @@ use version::SguVersion;
 
 // Writes the head, if there is room for it.
 pub fn write_head(version: SguVersion, out: &mut [u8]) -> Written
-    ensures { λ r. ⌜ r ≡ writtenOf (now (out .entry)) (headText version) ⌝ }
-    ensures { λ r. ⌜ now (out .exit) ≡ putOf (now (out .entry)) (headText version) ⌝ }
+    ensures result { λ r. ⌜ r ≡ writtenOf (now (out .entry)) (headText version) ⌝ }
+    ensures out { λ r. ⌜ now (out .exit) ≡ putOf (now (out .entry)) (headText version) ⌝ }
 {
     if out.len() < 7 {
         return Written::TextBuffer;

@@ -57,9 +57,9 @@ pub fn read_voice(
     wavetable: &mut [u8],
     queue: &mut [i16],
 ) -> Channel
-    ensures { λ r. ⌜ r ≡ channelAfter (readVoice version (now (text .entry))) c ⌝ }
-    ensures { λ r. ⌜ now (wavetable .exit) ≡ tableAfter (readVoice version (now (text .entry))) (now (wavetable .entry)) ⌝ }
-    ensures { λ r. ⌜ now (queue .exit) ≡ queueAfter (readVoice version (now (text .entry))) (now (queue .entry)) ⌝ }
+    ensures result { λ r. ⌜ r ≡ channelAfter (readVoice version (now (text .entry))) c ⌝ }
+    ensures wavetable { λ r. ⌜ now (wavetable .exit) ≡ tableAfter (readVoice version (now (text .entry))) (now (wavetable .entry)) ⌝ }
+    ensures queue { λ r. ⌜ now (queue .exit) ≡ queueAfter (readVoice version (now (text .entry))) (now (queue .entry)) ⌝ }
 {
     let mut numbers = [0u64; 2330];
     let fields = line_fields::read_line(version.has_3ws8pna(), text, &mut numbers);

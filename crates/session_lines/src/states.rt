@@ -1,7 +1,8 @@
 // A channel's registers and state as the numbers of a voice line, and back.
 ghost use mathlib.Core.Path.{_≡_};
 ghost use Rattle.line_fields.specs.Table.{sampleOfNumber};
-ghost use Rattle.session_lines.specs.Numbers.{at, flag as flagOf, lowByte, lowWord, lowLong, stateNumbers, registersOf, pcmOf, oscillatorOf, fifoOf, channelFrom};
+ghost use Rattle.session_lines.specs.Numbers.{at, flag as flagOf, lowByte, lowWord, lowLong, stateNumbers, registersOf, pcmOf};
+ghost use Rattle.session_lines.specs.Numbers.{oscillatorOf, fifoOf, channelFrom};
 use line_fields::number_at;
 use registers::Fifo;
 use registers::ModulationType;

@@ -47,8 +47,8 @@ fn entry(queue: &[i16], at: usize) -> i16
 
 // The queue's count and its samples, oldest first; answers the count.
 fn put_queue(f: Fifo, queue: &[i16], numbers: &mut [u64]) -> usize
-    ensures { λ r. ⌜ r ≡ min (f .count) fifoCapacity ⌝ }
-    ensures { λ r. ⌜ now (numbers .exit) ≡ sets (now (numbers .entry)) 281 (queueNumbers f (now (queue .entry))) ⌝ }
+    ensures result { λ r. ⌜ r ≡ min (f .count) fifoCapacity ⌝ }
+    ensures numbers { λ r. ⌜ now (numbers .exit) ≡ sets (now (numbers .entry)) 281 (queueNumbers f (now (queue .entry))) ⌝ }
 {
     let count = num::least(f.count, FIFO_CAPACITY);
     let head = f.head % FIFO_CAPACITY;
@@ -70,8 +70,8 @@ pub fn write_voice(
     queue: &[i16],
     out: &mut [u8],
 ) -> Written
-    ensures { λ r. ⌜ r ≡ writtenOf (now (out .entry)) (voiceText ch c (now (wavetable .entry)) (now (queue .entry))) ⌝ }
-    ensures { λ r. ⌜ now (out .exit) ≡ putOf (now (out .entry)) (voiceText ch c (now (wavetable .entry)) (now (queue .entry))) ⌝ }
+    ensures result { λ r. ⌜ r ≡ writtenOf (now (out .entry)) (voiceText ch c (now (wavetable .entry)) (now (queue .entry))) ⌝ }
+    ensures out { λ r. ⌜ now (out .exit) ≡ putOf (now (out .entry)) (voiceText ch c (now (wavetable .entry)) (now (queue .entry))) ⌝ }
 {
     if LAST_CHANNEL < ch {
         return Written::Length(0);

@@ -55,17 +55,26 @@ fn add_side_i32(stems: &[i16], hand: usize, side: &mut [i32], first: usize, coun
 
 // Frames are added to both sides from a place on, as many as there are stems and room for.
 pub fn add(stems: &[i16], left: &mut [i16], right: &mut [i16], first: usize)
-    ensures { λ _. ⌜ now (left .exit) ≡ addedTo saturating (framesIn (length (now (stems .entry))) (length (now (left .entry))) (length (now (right .entry))) first) (now (stems .entry)) 0 first (now (left .entry)) ⌝ }
-    ensures { λ _. ⌜ now (right .exit) ≡ addedTo saturating (framesIn (length (now (stems .entry))) (length (now (left .entry))) (length (now (right .entry))) first) (now (stems .entry)) 1 first (now (right .entry)) ⌝ }
+    ensures left { λ _. ⌜ now (left .exit)
+        ≡ addedTo saturating (framesIn (length (now (stems .entry))) (length (now (left .entry))) (length (now (right .entry))) first)
+        (now (stems .entry)) 0 first (now (left .entry)) ⌝ }
+    ensures right { λ _. ⌜ now (right .exit)
+        ≡ addedTo saturating (framesIn (length (now (stems .entry))) (length (now (left .entry))) (length (now (right .entry))) first)
+        (now (stems .entry)) 1 first (now (right .entry)) ⌝ }
 {
     let count = frames_in(stems.len(), left.len(), right.len(), first);
     add_side(stems, 0, left, first, count);
     add_side(stems, 1, right, first, count);
 }
 
+// The same on sides of 32 bits.
 pub fn add_i32(stems: &[i16], left: &mut [i32], right: &mut [i32], first: usize)
-    ensures { λ _. ⌜ now (left .exit) ≡ addedTo wrapping (framesIn (length (now (stems .entry))) (length (now (left .entry))) (length (now (right .entry))) first) (now (stems .entry)) 0 first (now (left .entry)) ⌝ }
-    ensures { λ _. ⌜ now (right .exit) ≡ addedTo wrapping (framesIn (length (now (stems .entry))) (length (now (left .entry))) (length (now (right .entry))) first) (now (stems .entry)) 1 first (now (right .entry)) ⌝ }
+    ensures left { λ _. ⌜ now (left .exit)
+        ≡ addedTo wrapping (framesIn (length (now (stems .entry))) (length (now (left .entry))) (length (now (right .entry))) first)
+        (now (stems .entry)) 0 first (now (left .entry)) ⌝ }
+    ensures right { λ _. ⌜ now (right .exit)
+        ≡ addedTo wrapping (framesIn (length (now (stems .entry))) (length (now (left .entry))) (length (now (right .entry))) first)
+        (now (stems .entry)) 1 first (now (right .entry)) ⌝ }
 {
     let count = frames_in(stems.len(), left.len(), right.len(), first);
     add_side_i32(stems, 0, left, first, count);

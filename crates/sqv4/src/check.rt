@@ -7,7 +7,8 @@ ghost use lib.ListN.{length, getD, drop};
 ghost use Rattle.num.specs.Lists.{part};
 ghost use Rattle.num.specs.Bytes.{le};
 ghost use Rattle.adpcm.specs.Codes.{bitsOf};
-ghost use Rattle.sqv4.specs.Files.{frameSamples, prefixOf, frameSize, frameCount, magic, frameLength, usedAt, faultIn, faultNumber, unlessFault, faultsFrom, headerOf, measured, named, inspected, numberOf, refusedWith, Fills};
+ghost use Rattle.sqv4.specs.Files.{frameSamples, prefixOf, frameSize, frameCount, magic, frameLength, usedAt, faultIn, faultNumber};
+ghost use Rattle.sqv4.specs.Files.{unlessFault, faultsFrom, headerOf, measured, named, inspected, numberOf, refusedWith, Fills};
 use crate::Fault;
 use crate::Header;
 use crate::Inspected;
@@ -42,7 +43,7 @@ fn has_magic(file: &[u8]) -> bool
 }
 
 fn wide(x: u8) -> usize
-    ensures { λ r. ⌜ r ≡ x ⌝ }
+    ensures result { λ r. ⌜ r ≡ x ⌝ }
     ensures { λ r. ⌜ r < 256 ⌝ }
 {
     x as usize
@@ -51,7 +52,7 @@ fn wide(x: u8) -> usize
 // A number of four bytes, the first lowest.
 fn number(file: &[u8], at: usize) -> usize
     requires { ⌜ at + 4 ≤ length (now file) ⌝ }
-    ensures { λ r. ⌜ r ≡ le (part (now (file .entry)) at 4) ⌝ }
+    ensures result { λ r. ⌜ r ≡ le (part (now (file .entry)) at 4) ⌝ }
     ensures { λ r. ⌜ r < 2 ^ 32 ⌝ }
 {
     wide(file[at])
@@ -61,21 +62,21 @@ fn number(file: &[u8], at: usize) -> usize
 }
 
 pub(crate) fn prefix_of(version: u8) -> usize
-    ensures { λ r. ⌜ r ≡ prefixOf version ⌝ }
-    ensures { λ r. ⌜ r ≤ 2 ⌝ }
+    ensures result { λ r. ⌜ r ≡ prefixOf version ⌝ }
+    ensures bound { λ r. ⌜ r ≤ 2 ⌝ }
 {
     if version == 3 { 2 } else { 1 }
 }
 
 fn frame_samples(version: u8) -> usize
-    ensures { λ r. ⌜ r ≡ frameSamples version ⌝ }
+    ensures result { λ r. ⌜ r ≡ frameSamples version ⌝ }
     ensures { λ r. ⌜ (63 ≤ r) × (r ≤ 64) ⌝ }
 {
     if version == 3 { 63 } else { 64 }
 }
 
 fn frame_size(version: u8, variant: Variant) -> usize
-    ensures { λ r. ⌜ r ≡ frameSize version variant ⌝ }
+    ensures result { λ r. ⌜ r ≡ frameSize version variant ⌝ }
     ensures { λ r. ⌜ (2 ≤ r) × (r ≤ 34) ⌝ }
 {
     if version == 3 {
@@ -87,7 +88,7 @@ fn frame_size(version: u8, variant: Variant) -> usize
 
 fn frame_count(per: usize, samples: usize) -> usize
     requires { ⌜ (63 ≤ per) × (per ≤ 64) ⌝ ∗ ⌜ samples < 2 ^ 32 ⌝ }
-    ensures { λ r. ⌜ r ≡ frameCount per samples ⌝ }
+    ensures result { λ r. ⌜ r ≡ frameCount per samples ⌝ }
     ensures { λ r. ⌜ r < 2 ^ 32 ⌝ }
 {
     (samples + (per - 1)) / per
@@ -96,8 +97,8 @@ fn frame_count(per: usize, samples: usize) -> usize
 // The samples of fragment `frame` of a channel.
 pub(crate) fn frame_length(header: Header, frame: usize) -> usize
     requires { ⌜ (header .«frame_samples» ≤ 64) × (frame < 2 ^ 40) ⌝ }
-    ensures { λ r. ⌜ r ≡ frameLength header frame ⌝ }
-    ensures { λ r. ⌜ r ≤ 64 ⌝ }
+    ensures result { λ r. ⌜ r ≡ frameLength header frame ⌝ }
+    ensures bound { λ r. ⌜ r ≤ 64 ⌝ }
 {
     let per = header.frame_samples;
     let samples = header.samples_per_channel;
@@ -162,7 +163,7 @@ fn fault_in(version: u8, used: usize, fragment: &[u8]) -> Fault
 
 // A fault as the check's answer, by the same number.
 fn told(fault: Fault) -> Inspected
-    ensures { λ r. ⌜ r ≡ unlessFault fault Inspected.NonZeroPadding ⌝ }
+    ensures result { λ r. ⌜ r ≡ unlessFault fault Inspected.NonZeroPadding ⌝ }
     ensures { λ r. ⌜ (0 < length (faultNumber fault) → numberOf r ≡ faultNumber fault) ⌝ }
 {
     match fault {
@@ -175,7 +176,7 @@ fn told(fault: Fault) -> Inspected
 // The bits of the codes of the fragment at a position.
 fn used_at(header: Header, position: usize) -> usize
     requires { ⌜ (header .«frame_samples» ≤ 64) × (1 ≤ header .channels) × (position < 2 ^ 40) ⌝ }
-    ensures { λ r. ⌜ r ≡ usedAt header position ⌝ }
+    ensures result { λ r. ⌜ r ≡ usedAt header position ⌝ }
     ensures { λ r. ⌜ r < 2 ^ 16 ⌝ }
 {
     let variant = header.variant;
@@ -205,7 +206,7 @@ fn faults(file: &[u8], header: Header) -> Inspected
 }
 
 fn one_or_two(channels: u8) -> bool
-    ensures { λ r. ⌜ r ≡ cond (eqb channels 1) true (eqb channels 2) ⌝ }
+    ensures result { λ r. ⌜ r ≡ cond (eqb channels 1) true (eqb channels 2) ⌝ }
     ensures { λ r. ⌜ (r ≡ true → (1 ≤ channels) × (channels ≤ 2)) ⌝ }
 {
     if channels == 1 {
@@ -225,7 +226,8 @@ fn known_version(version: u8) -> bool
 
 // The check of the length and the fragments.
 fn measure(file: &[u8], variant: Variant, rate: usize) -> Inspected
-    requires { ⌜ (16 ≤ length (now file)) × (rate < 2 ^ 32) ⌝ ∗ ⌜ (1 ≤ getD (now file) 6 0) × (getD (now file) 6 0 ≤ 2) ⌝ ∗ ⌜ rate ≡ le (part (now file) 8 4) ⌝ }
+    requires { ⌜ (16 ≤ length (now file)) × (rate < 2 ^ 32) ⌝ ∗ ⌜ (1 ≤ getD (now file) 6 0) × (getD (now file) 6 0 ≤ 2) ⌝ ∗ ⌜ rate
+        ≡ le (part (now file) 8 4) ⌝ }
     ensures { λ r. ⌜ r ≡ measured (now (file .entry)) (headerOf (now (file .entry)) variant) ⌝ }
 {
     let version = file[4];
@@ -276,7 +278,7 @@ fn check_named(file: &[u8], variant: Variant) -> Inspected
 
 // The check of a file.
 pub fn inspect(file: &[u8]) -> Inspected
-    ensures { λ r. ⌜ r ≡ inspected (now (file .entry)) ⌝ }
+    ensures result { λ r. ⌜ r ≡ inspected (now (file .entry)) ⌝ }
     ensures { λ r. ⌜ numberOf r ≡ refusedWith (now (file .entry)) ⌝ }
 {
     if file.len() < 16 {

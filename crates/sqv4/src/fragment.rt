@@ -6,7 +6,8 @@ ghost use lib.Dec.{eqb};
 ghost use lib.ListN.{length, getD, set};
 ghost use lib.IntN.{ℤ};
 ghost use Rattle.adpcm.specs.Codes.{bitsOf};
-ghost use Rattle.sqv4.specs.Decoding.{codesFrom, soundOf, sounds, ends, zeroState, startOf, begins, samplesOf, stateOf, reached, fragmentInto, stateBehind, legacyVersion, strided};
+ghost use Rattle.sqv4.specs.Decoding.{codesFrom, soundOf, sounds, ends, zeroState, startOf, begins, samplesOf, stateOf, reached};
+ghost use Rattle.sqv4.specs.Decoding.{fragmentInto, stateBehind, legacyVersion, strided};
 use adpcm::State;
 use adpcm::Variant;
 
@@ -46,8 +47,10 @@ fn decode_codes(
     places: Places,
 ) -> State
     requires { ⌜ (places .count < 2 ^ 62) × (places .step ≤ 2) × (places .at < 2 ^ 40) ⌝ }
-    ensures { λ _. ⌜ now (out .exit) ≡ strided (now (out .entry)) (places .at) (places .step) (sounds version variant volume start (codesFrom variant (now (payload .entry)) 0 (places .count))) ⌝ }
-    ensures { λ r. ⌜ r ≡ ends version variant start (codesFrom variant (now (payload .entry)) 0 (places .count)) ⌝ }
+    ensures out { λ _. ⌜ now (out .exit)
+        ≡ strided (now (out .entry)) (places .at) (places .step)
+        (sounds version variant volume start (codesFrom variant (now (payload .entry)) 0 (places .count))) ⌝ }
+    ensures result { λ r. ⌜ r ≡ ends version variant start (codesFrom variant (now (payload .entry)) 0 (places .count)) ⌝ }
 {
     let bits = variant.bits();
     let steps = adpcm::step_sizes();
@@ -97,8 +100,9 @@ pub(crate) fn decode_part(
     places: Places,
 ) -> State
     requires { ⌜ (places .count < 2 ^ 62) × (places .step ≤ 2) × (places .at < 2 ^ 40) ⌝ }
-    ensures { λ _. ⌜ now (out .exit) ≡ strided (now (out .entry)) (places .at) (places .step) (samplesOf version variant state (now (fragment .entry)) (places .count)) ⌝ }
-    ensures { λ r. ⌜ r ≡ stateOf version variant state (now (fragment .entry)) (places .count) ⌝ }
+    ensures out { λ _. ⌜ now (out .exit)
+        ≡ strided (now (out .entry)) (places .at) (places .step) (samplesOf version variant state (now (fragment .entry)) (places .count)) ⌝ }
+    ensures result { λ r. ⌜ r ≡ stateOf version variant state (now (fragment .entry)) (places .count) ⌝ }
 {
     let volume = num::byte_at(fragment, 0);
     let start = begin(version, state, num::byte_at(fragment, 1));
@@ -158,8 +162,8 @@ pub fn decode_legacy_fragment(
     fragment: &[u8],
     out: &mut [i16],
 ) -> State
-    ensures { λ _. ⌜ now (out .exit) ≡ fragmentInto (now (out .entry)) (legacyVersion version) variant state (now (fragment .entry)) ⌝ }
-    ensures { λ r. ⌜ r ≡ stateBehind (now (out .entry)) (legacyVersion version) variant state (now (fragment .entry)) ⌝ }
+    ensures out { λ _. ⌜ now (out .exit) ≡ fragmentInto (now (out .entry)) (legacyVersion version) variant state (now (fragment .entry)) ⌝ }
+    ensures result { λ r. ⌜ r ≡ stateBehind (now (out .entry)) (legacyVersion version) variant state (now (fragment .entry)) ⌝ }
 {
     let older = legacy_version(version);
     let places = Places {

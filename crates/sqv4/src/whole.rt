@@ -12,7 +12,8 @@ use adpcm::State;
 // The samples of one channel, to its places among the interleaved ones.
 fn decode_channel(file: &[u8], header: Header, channel: usize, samples: &mut [i16])
     requires { ⌜ Fills (now file) header ⌝ ∗ ⌜ channel < header .channels ⌝ }
-    ensures { λ _. ⌜ now (samples .exit) ≡ strided (now (samples .entry)) channel (header .channels) (channelWhole (now (file .entry)) header channel) ⌝ }
+    ensures { λ _. ⌜ now (samples .exit)
+        ≡ strided (now (samples .entry)) channel (header .channels) (channelWhole (now (file .entry)) header channel) ⌝ }
 {
     let variant = header.variant;
     let channels = header.channels as usize;
@@ -48,9 +49,9 @@ fn decode_channel(file: &[u8], header: Header, channel: usize, samples: &mut [i1
 
 // A whole file into `samples`, its channels interleaved: the shorter of the two is served.
 pub fn decode(file: &[u8], samples: &mut [i16]) -> Inspected
-    ensures { λ r. ⌜ r ≡ inspected (now (file .entry)) ⌝ }
+    ensures result { λ r. ⌜ r ≡ inspected (now (file .entry)) ⌝ }
     ensures { λ r. ⌜ numberOf r ≡ refusedWith (now (file .entry)) ⌝ }
-    ensures { λ _. ⌜ now (samples .exit) ≡ decodedInto (now (samples .entry)) (now (file .entry)) (inspected (now (file .entry))) ⌝ }
+    ensures samples { λ _. ⌜ now (samples .exit) ≡ decodedInto (now (samples .entry)) (now (file .entry)) (inspected (now (file .entry))) ⌝ }
 {
     let found = crate::check::inspect(file);
     let Inspected::Accepted(header) = found else {

@@ -7,7 +7,8 @@ ghost use lib.ListN.{length, replicate};
 ghost use lib.Seq.{sets};
 ghost use lib.IntN.{pos};
 ghost use Rattle.sqv4.specs.Decoding.{zeroState};
-ghost use Rattle.stream.specs.Cache.{Plays, stock, emptied, filledWith, rewoundFrom, cachedAt, isHeld, storedAs, countAt, framesOf, fragmentSamples, fragmentState, loadIn, stepIn, onwardIn, ensureIn};
+ghost use Rattle.stream.specs.Cache.{Plays, stock, emptied, filledWith, rewoundFrom, cachedAt, isHeld, storedAs, countAt, framesOf};
+ghost use Rattle.stream.specs.Cache.{fragmentSamples, fragmentState, loadIn, stepIn, onwardIn, ensureIn};
 use crate::Cached;
 use crate::Held;
 use crate::Info;
@@ -66,8 +67,9 @@ fn decode_into(
     frame: usize,
 ) -> State
     requires { ⌜ Plays (now file) variant info ⌝ ∗ ⌜ length (now samples) ≡ 128 ⌝ ∗ ⌜ frame < framesOf info ⌝ }
-    ensures { λ _. ⌜ now (samples .exit) ≡ sets (now (samples .entry)) (64 * (frame % 2)) (fragmentSamples (now (file .entry)) variant info state frame) ⌝ }
-    ensures { λ r. ⌜ r ≡ cond (eqb (info .version) 3) state (fragmentState (now (file .entry)) variant info state frame) ⌝ }
+    ensures samples { λ _. ⌜ now (samples .exit)
+        ≡ sets (now (samples .entry)) (64 * (frame % 2)) (fragmentSamples (now (file .entry)) variant info state frame) ⌝ }
+    ensures result { λ r. ⌜ r ≡ cond (eqb (info .version) 3) state (fragmentState (now (file .entry)) variant info state frame) ⌝ }
 {
     let size = info.frame_size;
     let from = 16 + frame * size;
@@ -88,6 +90,7 @@ fn decode_into(
 }
 
 impl StreamCache {
+    // A cache that holds nothing.
     pub fn empty() -> StreamCache
         ensures { λ r. ⌜ r ≡ emptied ⌝ }
     {
@@ -183,8 +186,9 @@ impl StreamCache {
     // A version 3 fragment, decoded by itself.
     fn load(self, samples: &mut [i16], file: &[u8], variant: Variant, frame: usize) -> StreamCache
         requires { ⌜ Plays (now file) variant (self .info) ⌝ ∗ ⌜ length (now samples) ≡ 128 ⌝ ∗ ⌜ frame < framesOf (self .info) ⌝ }
-        ensures { λ r. ⌜ r ≡ loadIn (now (file .entry)) variant (self .info) (stock self (now (samples .entry))) frame .cache ⌝ }
-        ensures { λ _. ⌜ now (samples .exit) ≡ loadIn (now (file .entry)) variant (self .info) (stock self (now (samples .entry))) frame .samples ⌝ }
+        ensures result { λ r. ⌜ r ≡ loadIn (now (file .entry)) variant (self .info) (stock self (now (samples .entry))) frame .cache ⌝ }
+        ensures samples { λ _. ⌜ now (samples .exit)
+            ≡ loadIn (now (file .entry)) variant (self .info) (stock self (now (samples .entry))) frame .samples ⌝ }
     {
         let info = self.info;
         let decoder = self.decoder;
@@ -194,9 +198,11 @@ impl StreamCache {
 
     // The next fragment of an older file.
     fn step(self, samples: &mut [i16], file: &[u8], variant: Variant) -> StreamCache
-        requires { ⌜ Plays (now file) variant (self .info) ⌝ ∗ ⌜ length (now samples) ≡ 128 ⌝ ∗ ⌜ self .«next_frame» < framesOf (self .info) ⌝ ∗ ⌜ eqb (self .info .version) 3 ≡ false ⌝ }
-        ensures { λ r. ⌜ r ≡ stepIn (now (file .entry)) variant (self .info) (stock self (now (samples .entry))) .cache ⌝ }
-        ensures { λ _. ⌜ now (samples .exit) ≡ stepIn (now (file .entry)) variant (self .info) (stock self (now (samples .entry))) .samples ⌝ }
+        requires { ⌜ Plays (now file) variant (self .info) ⌝ ∗ ⌜ length (now samples)
+            ≡ 128 ⌝ ∗ ⌜ self .«next_frame» < framesOf (self .info) ⌝ ∗ ⌜ eqb (self .info .version) 3 ≡ false ⌝ }
+        ensures result { λ r. ⌜ r ≡ stepIn (now (file .entry)) variant (self .info) (stock self (now (samples .entry))) .cache ⌝ }
+        ensures samples { λ _. ⌜ now (samples .exit)
+            ≡ stepIn (now (file .entry)) variant (self .info) (stock self (now (samples .entry))) .samples ⌝ }
     {
         let info = self.info;
         let frame = self.next_frame;
@@ -213,9 +219,11 @@ impl StreamCache {
         variant: Variant,
         target: usize,
     ) -> StreamCache
-        requires { ⌜ Plays (now file) variant (self .info) ⌝ ∗ ⌜ length (now samples) ≡ 128 ⌝ ∗ ⌜ (self .«next_frame» ≤ target) × (target < framesOf (self .info)) ⌝ ∗ ⌜ eqb (self .info .version) 3 ≡ false ⌝ }
-        ensures { λ r. ⌜ r ≡ onwardIn (now (file .entry)) variant (self .info) (stock self (now (samples .entry))) target .cache ⌝ }
-        ensures { λ _. ⌜ now (samples .exit) ≡ onwardIn (now (file .entry)) variant (self .info) (stock self (now (samples .entry))) target .samples ⌝ }
+        requires { ⌜ Plays (now file) variant (self .info) ⌝ ∗ ⌜ length (now samples)
+            ≡ 128 ⌝ ∗ ⌜ (self .«next_frame» ≤ target) × (target < framesOf (self .info)) ⌝ ∗ ⌜ eqb (self .info .version) 3 ≡ false ⌝ }
+        ensures result { λ r. ⌜ r ≡ onwardIn (now (file .entry)) variant (self .info) (stock self (now (samples .entry))) target .cache ⌝ }
+        ensures samples { λ _. ⌜ now (samples .exit)
+            ≡ onwardIn (now (file .entry)) variant (self .info) (stock self (now (samples .entry))) target .samples ⌝ }
     {
         let mut c = self;
         let mut n = self.next_frame;
@@ -235,8 +243,9 @@ impl StreamCache {
         target: usize,
     ) -> StreamCache
         requires { ⌜ Plays (now file) variant (self .info) ⌝ ∗ ⌜ length (now samples) ≡ 128 ⌝ ∗ ⌜ target < framesOf (self .info) ⌝ }
-        ensures { λ r. ⌜ r ≡ ensureIn (now (file .entry)) variant (self .info) (stock self (now (samples .entry))) target .cache ⌝ }
-        ensures { λ _. ⌜ now (samples .exit) ≡ ensureIn (now (file .entry)) variant (self .info) (stock self (now (samples .entry))) target .samples ⌝ }
+        ensures result { λ r. ⌜ r ≡ ensureIn (now (file .entry)) variant (self .info) (stock self (now (samples .entry))) target .cache ⌝ }
+        ensures samples { λ _. ⌜ now (samples .exit)
+            ≡ ensureIn (now (file .entry)) variant (self .info) (stock self (now (samples .entry))) target .samples ⌝ }
     {
         if self.has(target) {
             return self;

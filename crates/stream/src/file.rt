@@ -84,6 +84,7 @@ fn open_bytes(file: &[u8], wants_v3: bool, start: usize, loop_addr: usize) -> Op
     Opened::NoFile
 }
 
+// The file that a voice finds in the RAM from start to end.
 pub fn initialize_sqv4(
     ram: &[u8],
     wants_v3: bool,

@@ -57,7 +57,7 @@ pub(crate) fn within_of(version: u8, sample: usize) -> usize
 
 fn is_mixed(info: Info, p: Play, frac: u8, sample: usize) -> bool
     requires { ⌜ sample < info .«sample_count» ⌝ }
-    ensures { λ r. ⌜ r ≡ blends info p frac sample ⌝ }
+    ensures result { λ r. ⌜ r ≡ blends info p frac sample ⌝ }
     ensures { λ r. ⌜ (r ≡ true → sample + 1 < 2 ^ 64) ⌝ }
 {
     if p.interpolate {
@@ -107,8 +107,12 @@ impl Streamed {
         frac: u8,
     ) -> Streamed
         requires { ⌜ Plays (now file) variant (self .cache .info) ⌝ ∗ ⌜ length (now samples) ≡ 128 ⌝ ∗ ⌜ i < self .cache .info .«sample_count» ⌝ }
-        ensures { λ r. ⌜ r ≡ withGiven self (heardAt (cachedRead (now (file .entry)) variant (self .cache .info)) (self .cache .info) p frac (stock (self .cache) (now (samples .entry))) i) ⌝ }
-        ensures { λ _. ⌜ now (samples .exit) ≡ heardAt (cachedRead (now (file .entry)) variant (self .cache .info)) (self .cache .info) p frac (stock (self .cache) (now (samples .entry))) i .left .samples ⌝ }
+        ensures result { λ r. ⌜ r ≡ withGiven self
+            (heardAt (cachedRead (now (file .entry)) variant (self .cache .info)) (self .cache .info) p frac
+            (stock (self .cache) (now (samples .entry))) i) ⌝ }
+        ensures samples { λ _. ⌜ now (samples .exit)
+            ≡ heardAt (cachedRead (now (file .entry)) variant (self .cache .info)) (self .cache .info) p frac
+            (stock (self .cache) (now (samples .entry))) i .left .samples ⌝ }
     {
         let cache = self.cache;
         let info = cache.info;
@@ -130,8 +134,12 @@ impl Streamed {
     // The tick of a voice whose cache is valid.
     fn play(self, samples: &mut [i16], file: &[u8], p: Play) -> Streamed
         requires { ⌜ Ready (now file) (self .cache) ⌝ ∗ ⌜ length (now samples) ≡ 128 ⌝ }
-        ensures { λ r. ⌜ r ≡ streamedOf (tickOf p (self .phase) (self .active) (heldFound (now (file .entry)) (stock (self .cache) (now (samples .entry))) (self .cache .variant))) ⌝ }
-        ensures { λ _. ⌜ now (samples .exit) ≡ tickOf p (self .phase) (self .active) (heldFound (now (file .entry)) (stock (self .cache) (now (samples .entry))) (self .cache .variant)) .stream .samples ⌝ }
+        ensures result { λ r. ⌜ r ≡ streamedOf
+            (tickOf p (self .phase) (self .active)
+            (heldFound (now (file .entry)) (stock (self .cache) (now (samples .entry))) (self .cache .variant))) ⌝ }
+        ensures samples { λ _. ⌜ now (samples .exit)
+            ≡ tickOf p (self .phase) (self .active)
+            (heldFound (now (file .entry)) (stock (self .cache) (now (samples .entry))) (self .cache .variant)) .stream .samples ⌝ }
     {
         let cache = self.cache;
         let held = cache.variant;
@@ -151,8 +159,10 @@ impl Streamed {
 
     // A tick as the original has it. A cache that is not accepted, or that has not its 128 samples, is not heard.
     pub fn generate_sqv4_sample(self, samples: &mut [i16], ram: &[u8], p: Play) -> Streamed
-        ensures { λ r. ⌜ r ≡ streamedOf (cachedTick (now (ram .entry)) p (self .phase) (self .active) (stock (self .cache) (now (samples .entry)))) ⌝ }
-        ensures { λ _. ⌜ now (samples .exit) ≡ cachedTick (now (ram .entry)) p (self .phase) (self .active) (stock (self .cache) (now (samples .entry))) .stream .samples ⌝ }
+        ensures result { λ r. ⌜ r ≡ streamedOf
+            (cachedTick (now (ram .entry)) p (self .phase) (self .active) (stock (self .cache) (now (samples .entry)))) ⌝ }
+        ensures samples { λ _. ⌜ now (samples .exit)
+            ≡ cachedTick (now (ram .entry)) p (self .phase) (self .active) (stock (self .cache) (now (samples .entry))) .stream .samples ⌝ }
     {
         if samples.len() != 128 {
             return self.silent();

@@ -24,6 +24,7 @@ impl Oscillator {
 }
 
 impl Sides {
+    // Two silent sides.
     pub fn silent() -> Sides
         ensures { λ r. ⌜ r ≡ silence ⌝ }
     {
@@ -46,6 +47,7 @@ impl Sides {
         }
     }
 
+    // An oscillator's value added to the sides.
     pub fn with_value(self, q8: i16, volume: u8, panpot: u8) -> Sides
         ensures { λ r. ⌜ r ≡ heard self (volumeOf q8 volume) panpot ⌝ }
     {
@@ -56,6 +58,7 @@ impl Sides {
         )
     }
 
+    // A stream's value added to the sides.
     pub fn with_stream_value(self, q8: i32, volume: u8, panpot: u8) -> Sides
         ensures { λ r. ⌜ r ≡ heard self (streamVolumeOf q8 volume) panpot ⌝ }
     {
@@ -66,6 +69,7 @@ impl Sides {
         )
     }
 
+    // A queue's sample added to the sides.
     pub fn with_sample(self, sample: i16, panpot: u8) -> Sides
         ensures { λ r. ⌜ r ≡ heard self sample panpot ⌝ }
     {

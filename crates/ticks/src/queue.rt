@@ -7,9 +7,9 @@ use registers::Registers;
 
 impl QueueSound {
     fn step(self, g: Registers, queue: &mut [i16]) -> QueueSound
-        ensures { λ r. ⌜ r ≡ queueTick (g .frequency) (g .panpot) (now (queue .entry)) self ⌝ }
+        ensures result { λ r. ⌜ r ≡ queueTick (g .frequency) (g .panpot) (now (queue .entry)) self ⌝ }
         ensures { λ r. ⌜ Adds 1 (self .sides) (r .sides) ⌝ }
-        ensures { λ _. ⌜ now (queue .exit) ≡ now (queue .entry) ⌝ }
+        ensures queue { λ _. ⌜ now (queue .exit) ≡ now (queue .entry) ⌝ }
     {
         let f = self.fifo;
         let old = self.sides;
@@ -18,10 +18,11 @@ impl QueueSound {
         QueueSound { fifo, sides }
     }
 
+    // Some ticks of a FIFO voice.
     pub fn run(self, n: usize, g: Registers, queue: &mut [i16]) -> QueueSound
-        ensures { λ r. ⌜ r ≡ queueTicks n (g .frequency) (g .panpot) (now (queue .entry)) self ⌝ }
+        ensures result { λ r. ⌜ r ≡ queueTicks n (g .frequency) (g .panpot) (now (queue .entry)) self ⌝ }
         ensures { λ r. ⌜ Adds n (self .sides) (r .sides) ⌝ }
-        ensures { λ _. ⌜ now (queue .exit) ≡ now (queue .entry) ⌝ }
+        ensures queue { λ _. ⌜ now (queue .exit) ≡ now (queue .entry) ⌝ }
     {
         let mut v = self;
         for k in 0..n {

@@ -10,6 +10,7 @@ use registers::WaveformType;
 use version::SguVersion;
 
 impl Target {
+    // What stands for a target where there is none.
     pub fn nothing() -> Target
         ensures { λ r. ⌜ r ≡ noTarget ⌝ }
     {
@@ -22,6 +23,7 @@ impl Target {
 }
 
 impl Oscillator {
+    // A fresh voice's oscillator.
     pub fn default() -> Oscillator
         ensures { λ r. ⌜ r ≡ defaultOscillator ⌝ }
     {
@@ -34,6 +36,7 @@ impl Oscillator {
         }
     }
 
+    // Whether the oscillator is that of an accepted state.
     pub fn accepts(self) -> bool
         ensures { λ r. ⌜ r ≡ acceptsOscillator self ⌝ }
     {
@@ -70,6 +73,7 @@ fn step_of(waveform: WaveformType, frequency: u16) -> u64
 }
 
 impl Setting {
+    // What a voice's ticks take from its registers.
     pub fn of(g: Registers, sample_control: u8, version: SguVersion) -> Setting
         ensures { λ r. ⌜ r ≡ settingOf g «sample_control» version ⌝ }
     {

@@ -32,6 +32,7 @@ fn shifted(lfsr: u32, bit: u32) -> u32
     (lfsr >> 1) | (bit << 22)
 }
 
+// The LFSR one shift on.
 pub fn next_lfsr(lfsr: u32, custom: bool, param_1: u16, param_2: u16) -> u32
     ensures { λ r. ⌜ r ≡ nextLfsr lfsr custom param_1 param_2 ⌝ }
 {

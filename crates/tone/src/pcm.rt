@@ -25,13 +25,15 @@ fn mask_of(length: usize) -> usize
     if length == 0 { 0 } else { length - 1 }
 }
 
+// The RAM's byte at a position after the start.
 pub fn pcm_address(position: u64, start: u32, length: usize) -> usize
-    ensures { λ r. ⌜ r ≡ pcmAddress position start length ⌝ }
+    ensures result { λ r. ⌜ r ≡ pcmAddress position start length ⌝ }
     ensures { λ r. ⌜ (0 < length → r < length) ⌝ }
 {
     (std::num::wrapping_add_u64(position, start as u64) as usize) & mask_of(length)
 }
 
+// Whether a PCM control byte asks for a loop.
 pub fn loops(control: u8) -> bool
     ensures { λ r. ⌜ r ≡ loopsIn control ⌝ }
 {
@@ -40,7 +42,7 @@ pub fn loops(control: u8) -> bool
 
 // The second tap: after the last sample the loop's start, or the last sample itself.
 pub fn pcm_next(address: usize, end: u32, loop_addr: u32, control: u8, length: usize) -> usize
-    ensures { λ r. ⌜ r ≡ pcmNext address end «loop_addr» control length ⌝ }
+    ensures result { λ r. ⌜ r ≡ pcmNext address end «loop_addr» control length ⌝ }
     ensures { λ r. ⌜ (address < length → r < length) ⌝ }
 {
     let mask = mask_of(length);

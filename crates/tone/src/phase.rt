@@ -11,18 +11,21 @@ pub fn phase_step_q26(frequency: u16) -> u64
     (frequency as u64) * 89478 + ((frequency >> 1) as u64)
 }
 
+// A wavetable's step of phase at a frequency.
 pub fn wave_phase_step(frequency: u16) -> u64
     ensures { λ r. ⌜ r ≡ wavePhaseStep frequency ⌝ }
 {
     phase_step_q26(frequency) << 3
 }
 
+// A PCM voice's step of phase at a frequency.
 pub fn pcm_phase_step(frequency: u16) -> u64
     ensures { λ r. ⌜ r ≡ pcmPhaseStep frequency ⌝ }
 {
     phase_step_q26(num::least(frequency as usize, 48000) as u16)
 }
 
+// A stream's step of phase at a frequency.
 pub fn sqv4_phase_step(frequency: u16) -> u64
     ensures { λ r. ⌜ r ≡ sqv4PhaseStep frequency ⌝ }
 {
@@ -31,18 +34,20 @@ pub fn sqv4_phase_step(frequency: u16) -> u64
 
 // The whole samples of a phase, and the fraction after them in 1/256.
 pub fn whole(phase: u64) -> u64
-    ensures { λ r. ⌜ r ≡ wholeOf phase ⌝ }
+    ensures result { λ r. ⌜ r ≡ wholeOf phase ⌝ }
     ensures { λ r. ⌜ r < 2 ^ 35 ⌝ }
 {
     phase >> 29
 }
 
+// The eight bits below the whole of a phase.
 pub fn fraction(phase: u64) -> u8
     ensures { λ r. ⌜ r ≡ fractionOf phase ⌝ }
 {
     ((phase >> 21) & 255) as u8
 }
 
+// A phase one step on, in 64 bits.
 pub fn stepped(phase: u64, step: u64) -> u64
     ensures { λ r. ⌜ r ≡ steppedBy phase step ⌝ }
 {

@@ -4,7 +4,8 @@ ghost use Prim.Native.Nat.{_≤_, max};
 ghost use lib.IntN.{pos};
 ghost use Rattle.num.specs.Integers.{up, clamp};
 ghost use Rattle.tone.specs.Shape.{slewRate, slewStep};
-ghost use Rattle.tone.specs.Shape.{rung as rungOf, ring as ringOf, window as windowOf, slew as slewOf, slewed as slewedOf, centred as centredOf};
+ghost use Rattle.tone.specs.Shape.{rung as rungOf, ring as ringOf, window as windowOf, slew as slewOf, slewed as slewedOf};
+ghost use Rattle.tone.specs.Shape.{centred as centredOf};
 
 fn limited(x: i64, top: u16) -> u16
     ensures { λ r. ⌜ (r ≡ up (clamp x (pos 0) (pos top))) × (r ≤ top) ⌝ }
@@ -51,8 +52,8 @@ fn most(a: usize, b: usize) -> usize
 
 // The slew register moves toward a value, by at most a step: the value, kept between a step down and a step up.
 pub fn slew_rate(current: u16, q8: u16, step: u16) -> u16
-    ensures { λ r. ⌜ r ≡ slewRate current q8 step ⌝ }
-    ensures { λ r. ⌜ r ≤ 65280 ⌝ }
+    ensures result { λ r. ⌜ r ≡ slewRate current q8 step ⌝ }
+    ensures bound { λ r. ⌜ r ≤ 65280 ⌝ }
 {
     let now = current as usize;
     let by = step as usize;
@@ -62,8 +63,8 @@ pub fn slew_rate(current: u16, q8: u16, step: u16) -> u16
 
 // It moves by a whole step: down where the value is met.
 pub fn slew_step(current: u16, q8: u16, step: u16) -> u16
-    ensures { λ r. ⌜ r ≡ slewStep current q8 step ⌝ }
-    ensures { λ r. ⌜ r ≤ 65280 ⌝ }
+    ensures result { λ r. ⌜ r ≡ slewStep current q8 step ⌝ }
+    ensures bound { λ r. ⌜ r ≤ 65280 ⌝ }
 {
     let now = current as usize;
     let by = step as usize;
@@ -75,7 +76,7 @@ pub fn slew_step(current: u16, q8: u16, step: u16) -> u16
 
 // The slew register after a tick: modulation 5 is the rate, 6 the step.
 pub fn slew(modulation: u8, current: u16, q8: u16, step: u16) -> u16
-    ensures { λ r. ⌜ r ≡ slewOf modulation current q8 step ⌝ }
+    ensures result { λ r. ⌜ r ≡ slewOf modulation current q8 step ⌝ }
     ensures { λ r. ⌜ (current ≤ 65280 → r ≤ 65280) ⌝ }
 {
     if modulation == 5 {

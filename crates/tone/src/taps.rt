@@ -12,6 +12,7 @@ pub fn wavetable_mask(control: u8) -> u8
     ((256u32 >> (control & 3)) - 1) as u8
 }
 
+// A position within a wavetable's cycle.
 pub fn wave_index(position: u64, mask: u8) -> u8
     ensures { λ r. ⌜ r ≡ waveIndex position mask ⌝ }
 {
@@ -32,12 +33,14 @@ pub fn wave_cycle(mask: u8) -> u64
     ((mask as u64) + 1) << 29
 }
 
+// A byte as a value with 8 fraction bits.
 pub fn raised(sample: u8) -> u16
     ensures { λ r. ⌜ r ≡ raisedOf sample ⌝ }
 {
     (sample as u16) * 256
 }
 
+// Two bytes blended by a fraction.
 pub fn blend(current: u8, next: u8, fraction: u8) -> u16
     ensures { λ r. ⌜ r ≡ blendOf current next fraction ⌝ }
 {
@@ -47,15 +50,16 @@ pub fn blend(current: u8, next: u8, fraction: u8) -> u16
 
 // The same of a stream's samples.
 pub fn raised_sample(sample: i16) -> i32
-    ensures { λ r. ⌜ r ≡ raisedSample sample ⌝ }
-    ensures { λ r. ⌜ (up r ≤ 8388607) × (down r ≤ 8388608) ⌝ }
+    ensures result { λ r. ⌜ r ≡ raisedSample sample ⌝ }
+    ensures bound { λ r. ⌜ (up r ≤ 8388607) × (down r ≤ 8388608) ⌝ }
 {
     (sample as i32) * 256
 }
 
+// Two samples blended by a fraction.
 pub fn blend_samples(current: i16, next: i16, fraction: u8) -> i32
-    ensures { λ r. ⌜ r ≡ blendSamples current next fraction ⌝ }
-    ensures { λ r. ⌜ (up r ≤ 8388607) × (down r ≤ 8388608) ⌝ }
+    ensures result { λ r. ⌜ r ≡ blendSamples current next fraction ⌝ }
+    ensures bound { λ r. ⌜ (up r ≤ 8388607) × (down r ≤ 8388608) ⌝ }
 {
     let f = fraction as u32;
     (current as i32) * ((256 - f) as i32) + (next as i32) * (f as i32)

@@ -5,7 +5,7 @@ ghost use Rattle.tone.specs.Targets.{absoluteChannel};
 
 // By its number, or by 3 ahead to 4 behind the carrier.
 pub fn convert_to_absolute_channel_address(carrier: u8, mode: u8, target: u8) -> usize
-    ensures { λ r. ⌜ r ≡ absoluteChannel carrier mode target ⌝ }
+    ensures result { λ r. ⌜ r ≡ absoluteChannel carrier mode target ⌝ }
     ensures { λ r. ⌜ r < 8 ⌝ }
 {
     let offset = (target & 7) as usize;

@@ -1,6 +1,7 @@
 // What the versions have.
 ghost use mathlib.Core.Path.{_≡_};
-ghost use Rattle.version.specs.Versions.{versionNumber, versionOf, defaultVersion, coreCount, has3ws8pna, has34si22, hasSampleControl, interpolates as interpolatesAt, wavetableMaskOf};
+ghost use Rattle.version.specs.Versions.{versionNumber, versionOf, defaultVersion, coreCount, has3ws8pna, has34si22};
+ghost use Rattle.version.specs.Versions.{hasSampleControl, interpolates as interpolatesAt, wavetableMaskOf};
 use crate::SguVersion;
 
 impl SguVersion {
@@ -37,6 +38,7 @@ impl SguVersion {
         }
     }
 
+    // The cores of a version.
     pub fn core_count(self) -> usize
         ensures { λ r. ⌜ r ≡ coreCount self ⌝ }
     {
@@ -49,6 +51,7 @@ impl SguVersion {
         }
     }
 
+    // Whether a version has FIFO voices: V2.1 and later.
     pub fn has_3ws8pna(self) -> bool
         ensures { λ r. ⌜ r ≡ has3ws8pna self ⌝ }
     {
@@ -61,6 +64,7 @@ impl SguVersion {
         }
     }
 
+    // Whether a version takes streams of version 3 instead of 1 and 2: V3 and later.
     pub fn has_34si22(self) -> bool
         ensures { λ r. ⌜ r ≡ has34si22 self ⌝ }
     {
@@ -73,6 +77,7 @@ impl SguVersion {
         }
     }
 
+    // Whether a version has the sample control register.
     pub fn has_sample_control(self) -> bool
         ensures { λ r. ⌜ r ≡ hasSampleControl self ⌝ }
     {

@@ -2,7 +2,8 @@
 ghost use mathlib.Core.Path.{_≡_};
 ghost use Prim.Native.Nat.{_+_, _-_, _<_, _^_};
 ghost use lib.ListN.{take, drop};
-ghost use Rattle.version.specs.Spaces.{among as amongIn, spaceWidth, oneByteAt, twoBytesAt, threeBytesAt, leading as leadingOf, trailing as trailingOf, trimStart, trimEnd};
+ghost use Rattle.version.specs.Spaces.{among as amongIn, spaceWidth, oneByteAt, twoBytesAt, threeBytesAt, leading as leadingOf};
+ghost use Rattle.version.specs.Spaces.{trailing as trailingOf, trimStart, trimEnd};
 
 // The characters of one, two and three bytes; the first byte is the highest.
 const ONE: [u32; 6] = [0x09, 0x0A, 0x0B, 0x0C, 0x0D, 0x20];
