@@ -3,7 +3,7 @@ use native.Mathlib.Omega.{arith}
 use mathlib.Core.Path.{_≡_, sym, ap, _∙_}
 use Prim.Native.Nat.{ℕ, suc, _/_, _%_, _^_}
 use native.Mathlib.Numerals.{add-one}
-use lib.Dec.{ltb}
+use lib.Dec.{eqb, ltb}
 use lib.ListN.{getD, drop}
 use Rattle.num.specs.Bytes.{le}
 use Rattle.num.proofs.Bytes.{below-bit, le-drop, byte-above, byte-below}
@@ -43,10 +43,10 @@ returns-2 c =
     let p = s .args .payload .now in
     let n = s .args .used in
     let z : getD p (n / 8) 0 / 2 ^ (n % 8) ≡ 0 = rw (c .before .before .byte-at .ensures) at (c .before .if1 .left) in
-    c .zeros .ensures ∙ rw (add-one (n / 8))
-    (sym
+    c .zeros .ensures ∙ ap (λ (k : ℕ). eqb (le (drop k p)) 0) (add-one (n / 8))
+    ∙ sym
     (below-bit p (λ i. c .before .before .before .shared-slice-known .given i .fits) n ∙ ap (λ (x : ℕ). ltb x (2 ^ (n % 8))) (le-drop p (n / 8))
-    ∙ byte-below (getD p (n / 8) 0) (le (drop (suc (n / 8)) p)) (n % 8) (omega arith) z))
+    ∙ byte-below (getD p (n / 8) 0) (le (drop (suc (n / 8)) p)) (n % 8) (omega arith) z)
 
 pub clean-spec : {M : Type 1} → statement M
 clean-spec =
