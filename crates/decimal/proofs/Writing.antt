@@ -9,13 +9,14 @@ use native.Mathlib.Omega.{arith}
 use native.Mathlib.Decide.{decLe}
 use lib.Dec.{ltb}
 use lib.IntN.{ℤ, pos, negsuc, natAbs}
-use lib.ListN.{length, set, take, getD, length-append}
+use lib.ListN.{length, take, getD, length-append}
 use lib.Seq.{sets, set-out, length-sets, take-suc}
 use mir.Syntax.{w16}
 use mir.Val.{SFits}
 use borrow.Author.Tests.{ltb-false, lt-ltb, le-ltb}
 use Rattle.num.specs.Integers.{down}
 use Rattle.num.proofs.Integers.{fit-up, fit-down}
+use Rattle.num.proofs.Lists.{sets-append}
 use Rattle.decimal.specs.Written.{digitsIn, decimal, render, Put, each}
 
 enough : (f g n : ℕ) → n < f → n < g → digitsIn f n ≡ digitsIn g n
@@ -57,10 +58,6 @@ sample-width (pos n) h = omega (arith, width-below 4 n (omega (arith, fit-up h))
 sample-width (negsuc n) h = omega (arith, width-below 4 (suc n) (omega (arith, fit-down h)))
 
 -- ---- texts put one behind the other
-pub sets-append : (xs ys l : List ℕ) (i : ℕ) → sets l i (xs ++ ys) ≡ sets (sets l i xs) (i + length xs) ys
-sets-append [] ys l i = rw add-zero
-sets-append (x ∷ xs) ys l i = sets-append xs ys (set l i x) (suc i) ∙ ap (λ (k : ℕ). sets (sets (set l i x) (suc i) xs) k ys) (omega arith)
-
 sets-out : (xs l : List ℕ) (i : ℕ) → length l ≤ i → sets l i xs ≡ l
 sets-out [] l i h = refl
 sets-out (x ∷ xs) l i h = rw (set-out l i x h) (sets-out xs l (suc i) (omega arith))

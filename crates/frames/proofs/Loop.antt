@@ -1,15 +1,15 @@
 -- Turns one after another: where the loop stands before the next one. Assumes nothing.
 use mathlib.Core.Path.{_≡_, refl, sym, ap, _∙_}
 use mathlib.Core.Bool.{true}
-use mathlib.Core.List.{List, [], _∷_, _++_}
+use mathlib.Core.List.{List, [], _∷_}
 use Prim.Native.Nat.{ℕ, zero, suc, _+_, _*_, _%_}
 use native.Mathlib.Omega.{arith}
-use native.Mathlib.Nat.{add-zero}
 use native.Mathlib.Numerals.{add-one}
-use lib.ListN.{length, set, length-append}
+use lib.ListN.{length, length-append}
 use lib.Seq.{sets, length-sets}
 use lib.IntN.{ℤ}
 use Rattle.sizes.specs.Sizes.{numChannels}
+use Rattle.num.proofs.Lists.{sets-append}
 use Rattle.version.specs.declared.SguVersion.{SguVersion}
 use Rattle.ticks.specs.Mix.{silence}
 use Rattle.ticks.specs.declared.Sides.{Sides}
@@ -21,10 +21,6 @@ use Rattle.frames.specs.Ticking.{voiced, voiceTicks}
 use Rattle.frames.specs.Turning.{Turns, oneTurn, turned, afterTurns}
 use Rattle.frames.specs.declared.Turned.{Turned}
 use Rattle.frames.proofs.Turns.{Ready, Turn}
-
-pub sets-append : {A : Type 0} (xs ys l : List A) (i : ℕ) → sets l i (xs ++ ys) ≡ sets (sets l i xs) (i + length xs) ys
-sets-append [] ys l i = rw add-zero
-sets-append (x ∷ xs) ys l i = sets-append xs ys (set l i x) (suc i) ∙ ap (λ (k : ℕ). sets (sets (set l i x) (suc i) xs) k ys) (omega arith)
 
 module _ (version : SguVersion) (ram : List ℕ) (queues : List ℤ) (first n : ℕ) (core₀ : Core) (stems₀ : List ℤ) where
   abbrev done : ℕ → Turns

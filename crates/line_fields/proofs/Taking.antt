@@ -14,7 +14,7 @@ use mir.Syntax.{w16}
 use mir.Val.{ofZ}
 use borrow.Author.Tests.{eq-eqb, ne-eqb, le-leb, lt-leb}
 use Rattle.num.proofs.Choice.{cond-by}
-use Rattle.decimal.proofs.Writing.{sets-append}
+use Rattle.num.proofs.Lists.{sets-append}
 use Rattle.decimal.specs.Read.{naturalAt, numberAt}
 use Rattle.decimal.specs.declared.TakenNatural.the-variants.{Natural}
 use Rattle.decimal.specs.declared.TakenNumber.the-variants.{Number}

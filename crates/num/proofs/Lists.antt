@@ -1,11 +1,12 @@
 -- Parts of lists that are clipped to the list; what holds at every index. Assumes nothing.
 use mathlib.Core.Path.{_≡_, sym, ap, _∙_}
-use mathlib.Core.List.{List, [], _∷_}
-use Prim.Native.Nat.{ℕ, zero, suc, _-_, _≤_, min}
+use mathlib.Core.List.{List, [], _∷_, _++_}
+use Prim.Native.Nat.{ℕ, zero, suc, _+_, _-_, _≤_, min}
+use native.Mathlib.Nat.{add-zero}
 use native.Mathlib.Omega.{arith}
 use native.Mathlib.Decide.{decLe}
 use lib.ListN.{length, getD, set, take, drop, length-drop, drop-of-length-le}
-use lib.Seq.{take-all, take-nil}
+use lib.Seq.{take-all, take-nil, sets}
 use Rattle.num.specs.Lists.{part}
 
 drop-clipped : {A : Type 0} (l : List A) (k : ℕ) → drop (min k (length l)) l ≡ drop k l
@@ -77,3 +78,8 @@ each-set P d x h (a ∷ l) e zero zero = h
 each-set P d x h (a ∷ l) e zero (suc i) = e (suc i)
 each-set P d x h (a ∷ l) e (suc k) zero = e zero
 each-set P d x h (a ∷ l) e (suc k) (suc i) = each-set P d x h l (λ j. e (suc j)) k i
+
+-- stores one behind the other
+pub sets-append : {A : Type 0} (xs ys l : List A) (i : ℕ) → sets l i (xs ++ ys) ≡ sets (sets l i xs) (i + length xs) ys
+sets-append [] ys l i = rw add-zero
+sets-append (x ∷ xs) ys l i = sets-append xs ys (set l i x) (suc i) ∙ ap (λ (k : ℕ). sets (sets (set l i x) (suc i) xs) k ys) (omega arith)

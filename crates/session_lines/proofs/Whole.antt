@@ -9,7 +9,7 @@ use lib.ListN.{length, getD, drop, take, length-append, replicate, length-replic
 use lib.Seq.{sets, length-sets, sets-eq, take-at, getD-drop}
 use borrow.Author.Tests.{le-leb, lt-leb}
 use Rattle.sizes.specs.Sizes.{fifoCapacity}
-use Rattle.decimal.proofs.Writing.{sets-append}
+use Rattle.num.proofs.Lists.{sets-append}
 use Rattle.line_fields.specs.Text.{lineText, writtenOf, putOf}
 use Rattle.line_fields.specs.Reading.{ReadLine, line, malformed, readLine, fieldsOf, lineNumbers}
 use Rattle.line_fields.specs.declared.Fields.the-variants.{Count, Malformed}
