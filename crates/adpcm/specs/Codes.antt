@@ -20,6 +20,12 @@ use Rattle.adpcm.specs.Ima.{stepSize, difference, indexTable, indexAfter
 abbrev pub variantOf : ℕ → VariantByte
 variantOf b = cond (eqb b 0) (Known H) (cond (eqb b 1) (Known L) (cond (eqb b 2) (Known LPlus) Unknown))
 
+-- a variant's number in a header
+abbrev pub variantNumber : Variant → ℕ
+variantNumber H = 0
+variantNumber L = 1
+variantNumber LPlus = 2
+
 -- the bits of a code
 abbrev pub bitsOf : Variant → ℕ
 bitsOf H = 4

@@ -8,7 +8,7 @@ ghost use Rattle.num.specs.Bytes.{field};
 ghost use Rattle.adpcm.specs.Ima.{stepSizes, stepSize, indexTable, difference as imaDifference, indexAfter};
 ghost use Rattle.adpcm.specs.Codes.{variantOf, bitsOf, payloadBytes, fragmentSize, legacyFragmentSize, levelsOf, levelIndexes};
 ghost use Rattle.adpcm.specs.Codes.{levelDifference, deltaAt, deltaOf, adjustOf, updateOf, decodeAt, decodeCode, appliedVolume};
-ghost use Rattle.adpcm.specs.Codes.{legacyVolume, overlaid, codeAt};
+ghost use Rattle.adpcm.specs.Codes.{legacyVolume, overlaid, codeAt, variantNumber};
 
 pub enum Variant {
     H,
@@ -129,6 +129,17 @@ impl Variant {
             1 => VariantByte::Known(Variant::L),
             2 => VariantByte::Known(Variant::LPlus),
             _ => VariantByte::Unknown,
+        }
+    }
+
+    // The variant's byte in a header.
+    pub fn number(self) -> u8
+        ensures { λ r. ⌜ r ≡ variantNumber self ⌝ }
+    {
+        match self {
+            Variant::H => 0,
+            Variant::L => 1,
+            Variant::LPlus => 2,
         }
     }
 

@@ -4,6 +4,7 @@ mod fragment;
 mod whole;
 
 use adpcm::Variant;
+pub use check::MAGIC;
 pub use check::inspect;
 pub use check::stream_bytes;
 pub use fragment::decode_fragment;

@@ -4,8 +4,7 @@ use mathlib.Core.List.{List, [], _∷_, _++_}
 use Prim.Native.Nat.{ℕ, _*_, _^_, _-_, _≤_, min}
 use lib.IntN.{ℤ}
 use lib.ListN.{length, take}
-use Rattle.adpcm.specs.declared.Variant.{Variant}
-use Rattle.adpcm.specs.declared.Variant.the-variants.{H, L, LPlus}
+use Rattle.adpcm.specs.Codes.{variantNumber}
 use Rattle.sqv4.specs.declared.Header.{Header}
 use Rattle.sqv4.specs.declared.Inspected.{Inspected}
 use Rattle.sqv4.specs.declared.Inspected.the-variants.{Accepted, TruncatedHeader, InvalidMagic, UnsupportedVersion, InvalidVariant, InvalidChannels, InvalidReservedByte, ZeroSampleRate, InvalidFileLength, InvalidStepIndex, NonZeroPadding}
@@ -26,12 +25,6 @@ fromHeader f refused ZeroSampleRate = refused
 fromHeader f refused (InvalidFileLength e a) = refused
 fromHeader f refused (InvalidStepIndex x) = refused
 fromHeader f refused NonZeroPadding = refused
-
--- a variant's number in a header
-abbrev pub variantNumber : Variant → ℕ
-variantNumber H = 0
-variantNumber L = 1
-variantNumber LPlus = 2
 
 abbrev pub headerValues : Header → List ℕ
 headerValues h = h .version ∷ variantNumber (h .variant) ∷ h .channels ∷ h .«sample_rate» ∷ h .«samples_per_channel» ∷ []

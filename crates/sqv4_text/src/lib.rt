@@ -4,8 +4,7 @@ ghost use Prim.Native.Nat.{_<_, _≤_};
 ghost use mathlib.Core.List.{[], _∷_};
 ghost use lib.ListN.{length};
 ghost use Rattle.decimal.specs.Written.{Put};
-ghost use Rattle.sqv4_text.specs.Lines.{Lists, variantNumber, headerValues, valuesOf, samplesIn, fields, lines, wordOf, answerLine};
-use adpcm::Variant;
+ghost use Rattle.sqv4_text.specs.Lines.{Lists, headerValues, valuesOf, samplesIn, fields, lines, wordOf, answerLine};
 use sqv4::Header;
 use sqv4::Inspected;
 
@@ -27,16 +26,6 @@ struct Values {
     pub values: [u64; 5],
 }
 
-fn variant_number(variant: Variant) -> u64
-    ensures { λ r. ⌜ r ≡ variantNumber variant ⌝ }
-{
-    match variant {
-        Variant::H => 0,
-        Variant::L => 1,
-        Variant::LPlus => 2,
-    }
-}
-
 fn header_values(header: Header) -> Values
     ensures { λ r. ⌜ Lists r (headerValues header) ⌝ }
 {
@@ -45,7 +34,7 @@ fn header_values(header: Header) -> Values
         count: 5,
         values: [
             header.version as u64,
-            variant_number(variant),
+            variant.number() as u64,
             header.channels as u64,
             header.sample_rate as u64,
             header.samples_per_channel as u64,
