@@ -1,5 +1,5 @@
 -- A fragment's codes with zeros behind them, up to 64; the bytes of a fragment. Assumes nothing.
-use mathlib.Core.Path.{_≡_, refl, sym, ap, ap₂, _∙_}
+use mathlib.Core.Path.{_≡_, refl, ap, ap₂, _∙_}
 use mathlib.Core.List.{List, [], _∷_, _++_}
 use Prim.Native.Nat.{ℕ, zero, suc, _+_, _-_, _*_, _^_, _<_, _≤_}
 use native.Mathlib.Nat as N
@@ -13,7 +13,7 @@ use Rattle.num.proofs.Lists.{each-set}
 use Rattle.adpcm.specs.declared.Variant.{Variant}
 use Rattle.adpcm.specs.declared.Variant.the-variants.{H, L, LPlus}
 use Rattle.adpcm.specs.declared.State.{State}
-use Rattle.adpcm.specs.Codes.{bitsOf, payloadBytes, decodeCode}
+use Rattle.adpcm.specs.Codes.{bitsOf, payloadBytes}
 use Rattle.sqv4.specs.Decoding.{startOf}
 use Rattle.sqv4_writer.specs.Choice.{lastCode, distanceOf, codeFor, codesFor}
 use Rattle.sqv4_writer.specs.Packing.{codesNumber, bytesOf, packed}
@@ -22,10 +22,10 @@ use Rattle.sqv4_writer.proofs.Nearest.{nearest}
 
 -- ---- codes
 module _ (k : Variant) (volume : ℕ) where
-  pub length-codes : (s : State) (xs : List ℤ) → length (codesFor k volume s xs) ≡ length xs
+  pub length-codes-for : (s : State) (xs : List ℤ) → length (codesFor k volume s xs) ≡ length xs
   unfolding codesFor
-  length-codes s [] = refl
-  length-codes s (x ∷ xs) = ap suc (length-codes _ xs)
+  length-codes-for s [] = refl
+  length-codes-for s (x ∷ xs) = ap suc (length-codes-for _ xs)
 
   pub code-small : (s : State) (x : ℤ) → codeFor k volume s x < 2 ^ bitsOf k
   unfolding codeFor
@@ -48,10 +48,10 @@ zeros w (suc m) zero = ap (λ (j : ℕ). j * 2 ^ w + 0) (zeros w m zero) ∙ non
     none j = omega arith
 zeros w (suc m) (suc n) = zeros w m n
 
-behind : (w : ℕ) (cs zs : List ℕ) → codesNumber w zs ≡ 0 → codesNumber w (cs ++ zs) ≡ codesNumber w cs
+zeros-behind : (w : ℕ) (cs zs : List ℕ) → codesNumber w zs ≡ 0 → codesNumber w (cs ++ zs) ≡ codesNumber w cs
 unfolding codesNumber
-behind w [] zs e = e
-behind w (c ∷ cs) zs e = ap (λ (j : ℕ). j * 2 ^ w + c) (behind w cs zs e)
+zeros-behind w [] zs e = e
+zeros-behind w (c ∷ cs) zs e = ap (λ (j : ℕ). j * 2 ^ w + c) (zeros-behind w cs zs e)
 
 each-sets : (P : ℕ → Type 0) (xs : List ℕ) → ((i : ℕ) → P (getD xs i 0)) → (l : List ℕ) → ((i : ℕ) → P (getD l i 0)) → (at i : ℕ) → P (getD (sets l at xs) i 0)
 each-sets P [] h l g at i = g i
@@ -75,8 +75,8 @@ module _ (k : Variant) (volume : ℕ) (s : State) (xs : List ℤ) (few : length 
 
   pub array-number : (w : ℕ) → codesNumber w array ≡ codesNumber w (codesFor k volume s xs)
   array-number w =
-      ap (codesNumber w) (sets-eq (codesFor k volume s xs) (replicate 64 0) 0 (omega (arith, length-codes k volume s xs, length-replicate {A = ℕ} 64 0)))
-      ∙ behind w (codesFor k volume s xs) (drop (0 + length (codesFor k volume s xs)) (replicate 64 0)) (zeros w 64 (0 + length (codesFor k volume s xs)))
+      ap (codesNumber w) (sets-eq (codesFor k volume s xs) (replicate 64 0) 0 (omega (arith, length-codes-for k volume s xs, length-replicate {A = ℕ} 64 0)))
+      ∙ zeros-behind w (codesFor k volume s xs) (drop (0 + length (codesFor k volume s xs)) (replicate 64 0)) (zeros w 64 (0 + length (codesFor k volume s xs)))
 
 -- ---- a fragment's bytes
 pub eight-codes : (k : Variant) → 8 * bitsOf k ≡ payloadBytes k

@@ -1,11 +1,11 @@
 -- Codes packed one after the other: bytes that are stored, and fewer than eight bits that are held. Assumes nothing.
 use mathlib.Core.Path.{_≡_, refl, sym, ap, _∙_, subst}
-use mathlib.Core.List.{List, [], _∷_}
-use Prim.Native.Nat.{ℕ, zero, suc, _+_, _-_, _*_, _/_, _%_, _^_, _<_, _≤_}
+use mathlib.Core.List.{List}
+use Prim.Native.Nat.{ℕ, suc, _+_, _-_, _*_, _/_, _%_, _^_, _<_, _≤_}
 use native.Mathlib.Nat as N
 use native.Mathlib.Numerals.{add-one}
 use native.Mathlib.Omega.{arith}
-use lib.ListN.{length, getD, set, drop, length-set, drop-of-length-le}
+use lib.ListN.{length, getD, set, drop, length-set}
 use lib.Seq.{sets, drop-cons}
 use lib.Bits.{bitOr, or-shifted-r}
 use lib.Pow.{pow-add, shr-lt, shl-exact}

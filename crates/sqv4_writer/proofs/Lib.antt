@@ -6,3 +6,7 @@ pub mod Stored
 pub mod Filled
 pub mod Series
 pub mod Terms
+pub mod Written
+pub mod Passes
+pub mod Decodes
+pub mod Calls

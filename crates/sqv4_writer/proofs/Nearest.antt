@@ -1,11 +1,11 @@
 -- The nearest code: none is nearer, and a smaller one is farther. Assumes nothing.
 use mathlib.Core.Path.{_≡_, refl, ap}
-use mathlib.Core.Bool.{Bool, true, false, cond}
+use mathlib.Core.Bool.{Bool, true, false}
 use Prim.Native.Nat.{ℕ, zero, suc, _+_, _<_, _≤_}
 use native.Mathlib.Numerals.{add-one}
 use native.Mathlib.Omega.{arith}
 use lib.Dec.{ltb, leb}
-use borrow.Author.Tests.{leb-true, leb-false, lt-ltb, le-ltb}
+use borrow.Author.Tests.{ltb-true, ltb-false, leb-true, leb-false, lt-ltb, le-ltb}
 use Rattle.num.proofs.Choice.{cond-by}
 use Rattle.sqv4_writer.specs.Choice.{nearestOf}
 
@@ -23,14 +23,8 @@ nearest d zero = record { there = omega arith; least = λ c h. only c (none c h)
 
     only : (c : ℕ) → c ≡ 0 → d 0 ≤ d c
     only c e = let f : d c ≡ d 0 = ap d e in omega arith
-nearest d (suc n) = cond-by (IsNearest d (suc n)) (ltb (d (suc n)) (d (nearestOf d n))) (suc n) (nearestOf d n) (λ e. taken (nearest d n) (ltb-true e)) (λ e. kept (nearest d n) (ltb-false e))
+nearest d (suc n) = cond-by (IsNearest d (suc n)) (ltb (d (suc n)) (d (nearestOf d n))) (suc n) (nearestOf d n) (λ e. taken (nearest d n) (ltb-true _ _ e)) (λ e. kept (nearest d n) (ltb-false _ _ e))
   where
-    ltb-true : {a b : ℕ} → ltb a b ≡ true → a < b
-    ltb-true e = leb-true _ _ e
-
-    ltb-false : {a b : ℕ} → ltb a b ≡ false → b ≤ a
-    ltb-false {a} {b} e = let h = leb-false (suc a) b e in omega arith
-
     last : {A : Type 0} (c : ℕ) → c ≤ suc n → (c ≤ n → A) → (c ≡ suc n → A) → A
     last {A} c g f h = go (leb c n) refl
       where

@@ -1,30 +1,26 @@
 -- What was packed is unpacked, and no bit stands past the last code. Assumes nothing.
-use mathlib.Core.Path.{_≡_, refl, sym, ap, _∙_, subst}
+use mathlib.Core.Path.{_≡_, sym, ap, _∙_, subst}
 use mathlib.Core.List.{List, [], _∷_}
-use Prim.Native.Nat.{ℕ, zero, suc, _+_, _*_, _/_, _%_, _^_, _<_, _≤_}
+use Prim.Native.Nat.{ℕ, zero, suc, _+_, _*_, _/_, _%_, _^_, _<_}
 use native.Mathlib.Nat.{div-one, zero-div, zero-mod, mul-le-mul-right, suc-mul, zero-mul, add-comm}
-use native.Mathlib.Numerals.{unary-clauses}
 use native.Mathlib.Omega.{arith}
 use lib.ListN.{length, getD}
-use lib.Pow.{pow-pos, pow-add, high, low, shr-shr}
-use Rattle.num.specs.Bytes.{le, field}
+use lib.Pow.{pow-pos, pow-add, high, low, shr-shr, shr-lt}
+use Rattle.num.specs.Bytes.{le}
 use Rattle.sqv4_writer.specs.Packing.{codesNumber, bytesOf}
 
 abbrev pub Codes : ℕ → List ℕ → Type 0
 Codes w [] = Unit {0}
 Codes w (c ∷ cs) = (c < 2 ^ w) × Codes w cs
 
--- m bytes hold a number below 256 ^ m
-pub le-bytes : (m n : ℕ) → n < 256 ^ m → le (bytesOf m n) ≡ n
+-- m bytes hold a number of 8 m bits
+pub le-bytes : (m n : ℕ) → n < 2 ^ (8 * m) → le (bytesOf m n) ≡ n
 unfolding le bytesOf
 le-bytes zero n h = omega arith
-le-bytes (suc m) n h = rw (le-bytes m (n / 256) (smaller (256 ^ m) (more h))) (omega arith)
+le-bytes (suc m) n h = rw (le-bytes m (n / 256) (shr-lt {n = n} (8 * m) 8 (subst (λ (e : ℕ). n < 2 ^ e) (more m) h))) (omega arith)
   where
-    more : n < 256 ^ suc m → n < 256 ^ m * 256
-    more g = simp unary-clauses at g
-
-    smaller : (k : ℕ) → n < k * 256 → n / 256 < k
-    smaller k g = omega arith
+    more : (m : ℕ) → 8 * suc m ≡ 8 * m + 8
+    more m = omega arith
 
 -- code i
 pub number-at : (w : ℕ) (cs : List ℕ) → Codes w cs → (i : ℕ) → codesNumber w cs / 2 ^ (i * w) % 2 ^ w ≡ getD cs i 0

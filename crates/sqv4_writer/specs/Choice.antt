@@ -6,7 +6,7 @@ use lib.Dec.{ltb}
 use lib.IntN.{ℤ, natAbs, _-ℤ_}
 use Rattle.adpcm.specs.declared.Variant.{Variant}
 use Rattle.adpcm.specs.declared.State.{State}
-use Rattle.adpcm.specs.Codes.{bitsOf, decodeCode, volumeOf}
+use Rattle.adpcm.specs.Codes.{bitsOf, decodeCode, appliedVolume}
 
 -- of the numbers from 0 to n the one at the least distance, the smaller on a tie
 unfoldable pub nearestOf : (ℕ → ℕ) → ℕ → ℕ
@@ -20,7 +20,7 @@ lastCode k = 2 ^ bitsOf k - 1
 module _ (k : Variant) (volume : ℕ) where
   -- what a code gives in a state, after volume
   abbrev pub valueAt : State → ℕ → ℤ
-  valueAt s code = volumeOf (decodeCode 3 k s code .predictor) volume
+  valueAt s code = appliedVolume (decodeCode 3 k s code .predictor) volume
 
   -- and how far that is from a sample
   unfoldable pub distanceOf : State → ℤ → ℕ → ℕ

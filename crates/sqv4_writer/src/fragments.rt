@@ -41,7 +41,7 @@ pub(crate) fn header_bytes(variant: Variant, rate: u32, samples: u32) -> [u8; 16
 // The fragments that hold a number of samples.
 pub(crate) fn fragment_count(samples: usize) -> usize
     requires { ⌜ samples ≤ maxSamples ⌝ }
-    ensures { λ r. ⌜ r ≡ fragmentCount samples ⌝ }
+    ensures result { λ r. ⌜ r ≡ fragmentCount samples ⌝ }
     ensures { λ r. ⌜ r < 2 ^ 32 ⌝ }
 {
     (samples + (FRAGMENT_SAMPLES - 1)) / FRAGMENT_SAMPLES
@@ -74,7 +74,9 @@ pub(crate) fn write_fragments(
     out: &mut [u8],
 )
     requires { ⌜ length (now samples) ≤ maxSamples ⌝ }
-    ensures { λ _. ⌜ now (out .exit) ≡ sets (now (out .entry)) headerSize (fragmentsFor variant volume index (now (samples .entry)) (fragmentCount (length (now (samples .entry))))) ⌝ }
+    ensures { λ _. ⌜ now (out .exit)
+        ≡ sets (now (out .entry)) headerSize
+        (fragmentsFor variant volume index (now (samples .entry)) (fragmentCount (length (now (samples .entry))))) ⌝ }
 {
     let size = variant.fragment_size();
     let count = fragment_count(samples.len());

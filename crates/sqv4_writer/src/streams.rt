@@ -76,8 +76,8 @@ pub fn write_stream(
     index: u8,
     out: &mut [u8],
 ) -> StreamAnswer
-    ensures { λ r. ⌜ r ≡ answerFor (length (now (samples .entry))) variant rate volume index (length (now (out .entry))) ⌝ }
-    ensures { λ r. ⌜ now (out .exit) ≡ writtenInto (now (out .entry)) (fileOf (now (samples .entry)) variant rate volume index) r ⌝ }
+    ensures result { λ r. ⌜ r ≡ answerFor (length (now (samples .entry))) variant rate volume index (length (now (out .entry))) ⌝ }
+    ensures out { λ r. ⌜ now (out .exit) ≡ writtenInto (now (out .entry)) (fileOf (now (samples .entry)) variant rate volume index) r ⌝ }
 {
     let answer = answer_for(samples.len(), variant, rate, volume, index, out.len());
     match answer {

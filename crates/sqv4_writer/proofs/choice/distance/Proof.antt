@@ -8,7 +8,7 @@ use mir.Val.{SFits}
 use Rattle.num.proofs.Integers.{back}
 use Rattle.num.proofs.Fit.{widen16-32, fit-abs, abs-fit, abs-sub}
 use Rattle.adpcm.specs.declared.State.{State}
-use Rattle.adpcm.specs.Codes.{volumeOf, decodeAt, decodeCode}
+use Rattle.adpcm.specs.Codes.{appliedVolume, decodeAt, decodeCode}
 use Rattle.adpcm.proofs.Ima.{read-is}
 use Rattle.sqv4_writer.specs.Choice.{distanceOf}
 use Rattle.sqv4_writer.proofs.choice.distance.Statement.{statement}
@@ -54,10 +54,10 @@ returns c =
     let near : SFits w16 (d .result .predictor) = record { sfits = v .before .struct-told .given .0 .1 } in
     let ed : d .result ≡ decodeCode 3 (a .variant) (a .state) (a .code) =
     d .ensures ∙ ap (λ (n : ℕ). decodeAt 3 (a .variant) (a .state) (min n 32767) (a .code)) (v .before .before .before .pre) ∙ read-is 3 (a .variant) (a .state) (a .code) in
-    let ev : v .apply-volume .result ≡ volumeOf (d .result .predictor) (a .volume) = rw (back w16 _ near) at (v .apply-volume .ensures) in
+    let ev : v .apply-volume .result ≡ appliedVolume (d .result .predictor) (a .volume) = rw (back w16 _ near) at (v .apply-volume .ensures) in
     let em : c .magnitude .result ≡ natAbs (v .apply-volume .result -ℤ a .sample) =
     rw (back w16 _ (value v), back w32 _ (widen16-32 (value v)), back w16 _ f, back w32 _ (widen16-32 f), back w32 _ (apart v)) at (c .magnitude .ensures) in
-    em ∙ ap (λ (z : ℤ). natAbs (z -ℤ a .sample)) (ev ∙ ap (λ (s : State). volumeOf (s .predictor) (a .volume)) ed)
+    em ∙ ap (λ (z : ℤ). natAbs (z -ℤ a .sample)) (ev ∙ ap (λ (s : State). appliedVolume (s .predictor) (a .volume)) ed)
 
 pub distance-spec : {M : Type 1} → statement M
 distance-spec =

@@ -1,8 +1,8 @@
 use borrow.Author.Needs.{needs}
 use borrow.Author.Tests.{lt-ltb, le-ltb}
 use mathlib.Core.Path.{_≡_, sym, _∙_}
-use mathlib.Core.Bool.{true, false}
-use Rattle.sqv4_writer.specs.Streams.{answerFor, outOfTerms, lengthFor}
+use mathlib.Core.Bool.{false}
+use Rattle.sqv4_writer.specs.Streams.{answerFor, outOfTerms}
 use Rattle.sqv4_writer.proofs.Terms.{in-terms}
 use Rattle.sqv4_writer.proofs.streams.answer_for.Statement.{statement}
 use Rattle.sqv4_writer.proofs.streams.answer_for.Tie as tie

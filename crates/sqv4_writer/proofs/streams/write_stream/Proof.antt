@@ -1,6 +1,6 @@
 use mathlib.Core.Path.{sym, ap, _∙_}
 use Rattle.sqv4_writer.specs.Streams.{writtenInto, fileOf}
-use Rattle.sqv4_writer.proofs.Terms.{written-in-terms}
+use Rattle.sqv4_writer.proofs.Terms.{wrote}
 use borrow.Author.Needs.{needs}
 use Rattle.sqv4_writer.proofs.streams.write_stream.Statement.{statement}
 use Rattle.sqv4_writer.proofs.streams.write_stream.Tie as tie
@@ -12,7 +12,7 @@ enum-told : tie.Need-enum-told
 enum-told c = search needs
 
 write-file-requires : tie.Need-write-file-requires
-write-file-requires c κs = written-in-terms _ _ _ _ _ _ _ (sym (c .before .before .before .answer-for .ensures) ∙ c .before .enum-told .given .1) .few
+write-file-requires c κs = wrote _ _ _ _ _ _ _ (sym (c .before .before .before .answer-for .ensures) ∙ c .before .enum-told .given .1) .terms .few
 
 enum-told-2 : tie.Need-enum-told-2
 enum-told-2 c = search needs
