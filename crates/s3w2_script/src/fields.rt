@@ -52,7 +52,7 @@ fn count_after(found: bool, k: usize, count: usize) -> usize {
 }
 
 // The fields behind a line's letter, and how many there are; those that are not there are 0.
-pub fn parse(line: &[u8], f: &mut [u64]) -> usize {
+pub(crate) fn parse(line: &[u8], f: &mut [u64]) -> usize {
     let mut at = 1;
     let mut count = 0;
     for k in 0..f.len() {
@@ -66,99 +66,142 @@ pub fn parse(line: &[u8], f: &mut [u64]) -> usize {
 
 // ---- a field by its type
 
-pub fn long(f: &[u64], k: usize) -> u64 {
+pub(crate) fn long(f: &[u64], k: usize) -> u64 {
     if k < f.len() { f[k] } else { 0 }
 }
 
-pub fn size(f: &[u64], k: usize) -> usize {
+pub(crate) fn size(f: &[u64], k: usize) -> usize {
     long(f, k) as usize
 }
 
-pub fn word(f: &[u64], k: usize) -> u32 {
+pub(crate) fn word(f: &[u64], k: usize) -> u32 {
     (long(f, k) % 4294967296) as u32
 }
 
-pub fn short(f: &[u64], k: usize) -> u16 {
+pub(crate) fn short(f: &[u64], k: usize) -> u16 {
     (long(f, k) % 65536) as u16
 }
 
-pub fn byte(f: &[u64], k: usize) -> u8 {
+pub(crate) fn byte(f: &[u64], k: usize) -> u8 {
     (long(f, k) % 256) as u8
 }
 
-pub fn flag(f: &[u64], k: usize) -> bool {
+pub(crate) fn flag(f: &[u64], k: usize) -> bool {
     long(f, k) != 0
 }
 
-pub fn sample(f: &[u64], k: usize) -> i16 {
+pub(crate) fn sample(f: &[u64], k: usize) -> i16 {
     num::signed16(short(f, k))
 }
 
 // Two halves of 16 bits.
-pub fn wide(high: u16, low: u16) -> i32 {
+pub(crate) fn wide(high: u16, low: u16) -> i32 {
     let half = (num::signed16(high) as i32) * 32768;
     tone::wrapping_add(tone::wrapping_add(half, half), low as i32)
 }
 
-pub fn signed_word(f: &[u64], k: usize) -> i32 {
+pub(crate) fn signed_word(f: &[u64], k: usize) -> i32 {
     let bits = word(f, k);
     wide((bits / 65536) as u16, (bits % 65536) as u16)
 }
 
-pub fn version(f: &[u64], k: usize) -> SguVersion {
+pub(crate) fn version(f: &[u64], k: usize) -> SguVersion {
     SguVersion::numbered(long(f, k))
 }
 
-// ---- an answer's fields, each after a comma
+// ---- an answer's fields, each after a comma; of samples those from a place to before another
 
-pub fn put(out: &mut [u8], at: usize, n: u64) -> usize {
+pub(crate) fn put(out: &mut [u8], at: usize, n: u64) -> usize {
     let end = decimal::put_byte(&mut *out, at, 44);
     decimal::put_natural(out, end, n)
 }
 
-pub fn put_sample(out: &mut [u8], at: usize, x: i16) -> usize {
+pub(crate) fn put_number(out: &mut [u8], at: usize, n: i64) -> usize {
     let end = decimal::put_byte(&mut *out, at, 44);
-    decimal::put_number(out, end, x as i64)
+    decimal::put_number(out, end, n)
 }
 
-pub fn put_wide(out: &mut [u8], at: usize, x: i32) -> usize {
-    let end = decimal::put_byte(&mut *out, at, 44);
-    decimal::put_number(out, end, x as i64)
+fn long_byte(x: u8) -> u64 {
+    x as u64
 }
 
-pub fn put_byte(out: &mut [u8], at: usize, x: u8) -> usize {
-    put(out, at, x as u64)
+pub(crate) fn long_sample(x: i16) -> i64 {
+    x as i64
 }
 
-pub fn put_flag(out: &mut [u8], at: usize, x: bool) -> usize {
-    if x {
-        return put(out, at, 1);
-    }
-    put(out, at, 0)
+fn long_wide(x: i32) -> i64 {
+    x as i64
 }
 
-pub fn put_samples(out: &mut [u8], at: usize, samples: &[i16]) -> usize {
+pub(crate) fn flag_number(x: bool) -> u8 {
+    if x { 1 } else { 0 }
+}
+
+pub(crate) fn put_naturals(out: &mut [u8], at: usize, naturals: &[u64]) -> usize {
     let mut end = at;
-    for i in 0..samples.len() {
-        end = put_sample(&mut *out, end, samples[i]);
+    for i in 0..naturals.len() {
+        end = put(&mut *out, end, naturals[i]);
     }
     end
 }
 
-pub fn put_wide_samples(out: &mut [u8], at: usize, samples: &[i32]) -> usize {
+pub(crate) fn put_bytes(out: &mut [u8], at: usize, bytes: &[u8]) -> usize {
     let mut end = at;
-    for i in 0..samples.len() {
-        end = put_wide(&mut *out, end, samples[i]);
+    for i in 0..bytes.len() {
+        end = put(&mut *out, end, long_byte(bytes[i]));
+    }
+    end
+}
+
+pub(crate) fn put_samples(
+    out: &mut [u8],
+    at: usize,
+    samples: &[i16],
+    from: usize,
+    to: usize,
+) -> usize {
+    let mut end = at;
+    for i in from..num::least(to, samples.len()) {
+        end = put_number(&mut *out, end, long_sample(samples[i]));
+    }
+    end
+}
+
+pub(crate) fn put_wide_samples(out: &mut [u8], at: usize, samples: &[i32], to: usize) -> usize {
+    let mut end = at;
+    for i in 0..num::least(to, samples.len()) {
+        end = put_number(&mut *out, end, long_wide(samples[i]));
     }
     end
 }
 
 // ---- numbers from a seed
 
-pub fn next_seed(seed: u64) -> u64 {
+pub(crate) fn next_seed(seed: u64) -> u64 {
     (seed % 2147483648 * 1103515245 + 12345) % 2147483648
 }
 
-pub fn bits_of(seed: u64) -> u16 {
+pub(crate) fn bits_of(seed: u64) -> u16 {
     (seed / 256 % 65536) as u16
+}
+
+// Puts samples from a seed, or zeros, from a place to before another, and answers the seed after them.
+pub(crate) fn fill(samples: &mut [i16], from: usize, to: usize, seed: u64, loud: bool) -> u64 {
+    let mut x = seed;
+    for i in from..num::least(to, samples.len()) {
+        x = next_seed(x);
+        samples[i] = if loud { num::signed16(bits_of(x)) } else { 0 };
+    }
+    x
+}
+
+// The same of 32 bits, of which each takes two steps of the seed.
+pub(crate) fn fill_wide(samples: &mut [i32], seed: u64) -> u64 {
+    let mut x = seed;
+    for i in 0..samples.len() {
+        let y = next_seed(x);
+        x = next_seed(y);
+        samples[i] = wide(bits_of(y), bits_of(x));
+    }
+    x
 }

@@ -65,17 +65,36 @@ fn fifo_of(f: &[u64]) -> Fifo {
     }
 }
 
-// The queue's entries from its head on, from a seed.
+// Where a voice's queue lies in the queue buffer: the entries from `from` to before `to` are the oldest, those from `again` to
+// before `end` follow them.
+pub(crate) struct Ring {
+    pub from: usize,
+    pub to: usize,
+    pub again: usize,
+    pub end: usize,
+}
+
+pub(crate) fn ring_of(ch: usize, fifo: Fifo) -> Ring {
+    let head = fifo.head % FIFO_CAPACITY;
+    let count = num::least(fifo.count, FIFO_CAPACITY);
+    let oldest = num::least(count, FIFO_CAPACITY - head);
+    let again = ch % 8 * FIFO_CAPACITY;
+    Ring {
+        from: again + head,
+        to: again + head + oldest,
+        again,
+        end: again + (count - oldest),
+    }
+}
+
+// The queue's entries, oldest first, from a seed.
 fn fill_queue(queues: &mut [i16], ch: usize, fifo: Fifo, seed: u64) {
     if queues.len() < QUEUE_BUFFER {
         return;
     }
-    let mut x = seed;
-    for i in 0..num::least(fifo.count, FIFO_CAPACITY) {
-        x = fields::next_seed(x);
-        let at = ch % 8 * FIFO_CAPACITY + (fifo.head % FIFO_CAPACITY + i) % FIFO_CAPACITY;
-        queues[at] = num::signed16(fields::bits_of(x));
-    }
+    let r = ring_of(ch, fifo);
+    let x = fields::fill(&mut *queues, r.from, r.to, seed, true);
+    fields::fill(queues, r.again, r.end, x, true);
 }
 
 // The voice's wavetable from a seed; from 0 that of a fresh voice.
@@ -94,16 +113,8 @@ fn fill_wavetable(wavetables: &mut [u8; WAVETABLES_SIZE], ch: usize, seed: u64) 
 
 // The voice's decoded samples from a seed; from 0 they are 0.
 fn fill_fragments(fragments: &mut [i16; 1024], ch: usize, seed: u64) {
-    let mut x = seed;
-    for i in 0usize..128 {
-        x = fields::next_seed(x);
-        let at = ch % 8 * 128 + i;
-        fragments[at] = if seed == 0 {
-            0
-        } else {
-            num::signed16(fields::bits_of(x))
-        };
-    }
+    let at = ch % 8 * 128;
+    fields::fill(fragments, at, at + 128, seed, seed != 0);
 }
 
 fn with_core(chip: Chip, core: Core) -> Chip {
@@ -112,7 +123,7 @@ fn with_core(chip: Chip, core: Core) -> Chip {
 }
 
 // The voice has its cache as it was.
-pub fn with_voice(chip: Chip, f: &[u64], queues: &mut [i16]) -> Chip {
+pub(crate) fn with_voice(chip: Chip, f: &[u64], queues: &mut [i16]) -> Chip {
     let ch = fields::size(f, 0) % 8;
     let fifo = fifo_of(f);
     fill_queue(queues, ch, fifo, fields::long(f, 27));
@@ -176,7 +187,7 @@ fn cache_of(f: &[u64]) -> StreamCache {
     }
 }
 
-pub fn with_cache(chip: Chip, f: &[u64]) -> Chip {
+pub(crate) fn with_cache(chip: Chip, f: &[u64]) -> Chip {
     let ch = fields::size(f, 0) % 8;
     let mut core = chip.core;
     let mut c = core.channels[ch];

@@ -1,10 +1,10 @@
 // The calls that clock frames.
-use crate::Played;
 use crate::Player;
 use crate::calls;
 use crate::fields;
 use s3w2::Answer;
 use s3w2::Called;
+use s3w2::Chip;
 
 fn is_done(answer: Answer) -> bool {
     let Answer::Done = answer else {
@@ -13,130 +13,99 @@ fn is_done(answer: Answer) -> bool {
     true
 }
 
-// Samples from a seed, and the seed after them.
-fn fill(samples: &mut [i16], seed: u64) -> u64 {
-    let mut x = seed;
-    for i in 0..samples.len() {
-        x = fields::next_seed(x);
-        samples[i] = num::signed16(fields::bits_of(x));
+// Puts the samples where a call is done, and its refusal where it is not.
+fn put_stems(out: &mut [u8], at: usize, answer: Answer, stems: &[i16; 8192], n: usize) -> usize {
+    if is_done(answer) {
+        return fields::put_samples(out, at, stems, 0, n);
     }
-    x
+    calls::put_answer(out, at, answer)
 }
 
-fn fill_wide(samples: &mut [i32], seed: u64) -> u64 {
-    let mut x = seed;
-    for i in 0..samples.len() {
-        let y = fields::next_seed(x);
-        x = fields::next_seed(y);
-        samples[i] = fields::wide(fields::bits_of(y), fields::bits_of(x));
+// The same of two sides, of as many samples as is said.
+fn put_sides(
+    out: &mut [u8],
+    at: usize,
+    answer: Answer,
+    left: &[i16; 1024],
+    l: usize,
+    right: &[i16; 1024],
+    r: usize,
+) -> usize {
+    if is_done(answer) {
+        let end = fields::put_samples(&mut *out, at, left, 0, l);
+        return fields::put_samples(out, end, right, 0, r);
     }
-    x
+    calls::put_answer(out, at, answer)
+}
+
+fn put_wide_sides(
+    out: &mut [u8],
+    at: usize,
+    answer: Answer,
+    left: &[i32; 1024],
+    l: usize,
+    right: &[i32; 1024],
+    r: usize,
+) -> usize {
+    if is_done(answer) {
+        let end = fields::put_wide_samples(&mut *out, at, left, l);
+        return fields::put_wide_samples(out, end, right, r);
+    }
+    calls::put_answer(out, at, answer)
+}
+
+// Clocks into two sides that hold samples from a seed.
+fn mixed(
+    chip: Chip,
+    code: u8,
+    seed: u64,
+    ram: &[u8],
+    queues: &mut [i16],
+    left: &mut [i16],
+    right: &mut [i16],
+) -> Called {
+    let l = left.len();
+    let r = right.len();
+    let x = fields::fill(&mut *left, 0, l, seed, true);
+    fields::fill(&mut *right, 0, r, x, true);
+    if code == b'X' {
+        return chip.clock_mixed(ram, queues, left, right);
+    }
+    chip.clock_mixed_into(ram, queues, left, right)
+}
+
+fn mixed_wide(
+    chip: Chip,
+    seed: u64,
+    ram: &[u8],
+    queues: &mut [i16],
+    left: &mut [i32],
+    right: &mut [i32],
+) -> Called {
+    let x = fields::fill_wide(&mut *left, seed);
+    fields::fill_wide(&mut *right, x);
+    chip.clock_mixed_into_i32(ram, queues, left, right)
 }
 
 impl Player {
-    // An answer, or the samples where it is done.
-    fn sounded(self, called: Called, samples: &[i16], out: &mut [u8], at: usize) -> Played {
-        let answer = called.answer;
-        if is_done(answer) {
-            let chip = called.chip;
-            return self.with(chip, fields::put_samples(out, at, samples));
-        }
-        self.after(called, out, at)
-    }
-
-    // Two sides, the left one's samples first.
-    fn sounded_twice(
-        self,
-        called: Called,
-        left: &[i16],
-        right: &[i16],
-        out: &mut [u8],
-        at: usize,
-    ) -> Played {
-        let answer = called.answer;
-        if is_done(answer) {
-            let end = fields::put_samples(&mut *out, at, left);
-            return self.sounded(called, right, out, end);
-        }
-        self.after(called, out, at)
-    }
-
-    fn stems_over(
-        self,
-        frames: usize,
-        ram: &[u8],
-        queues: &mut [i16],
-        stems: &mut [i16],
-        out: &mut [u8],
-        at: usize,
-    ) -> Played {
-        let chip = self.chip;
-        let called = chip.clock(ram, queues, frames, &mut *stems);
-        self.sounded(called, stems, out, at)
-    }
-
-    pub fn stems(
+    pub(crate) fn stems(
         self,
         f: &[u64],
         ram: &[u8],
         queues: &mut [i16],
         out: &mut [u8],
         at: usize,
-    ) -> Played {
+    ) -> Player {
+        let chip = self.chip;
         let mut stems = [0i16; 8192];
         let n = num::least(fields::size(f, 1), 8192);
-        self.stems_over(fields::size(f, 0), ram, queues, &mut stems[..n], out, at)
+        let called = chip.clock(ram, queues, fields::size(f, 0), &mut stems[..n]);
+        let next = called.chip;
+        let answer = called.answer;
+        self.with(next, put_stems(out, at, answer, &stems, n))
     }
 
-    fn mixed(
-        self,
-        ram: &[u8],
-        queues: &mut [i16],
-        left: &mut [i16],
-        right: &mut [i16],
-        out: &mut [u8],
-        at: usize,
-    ) -> Played {
-        let chip = self.chip;
-        let called = chip.clock_mixed(ram, queues, &mut *left, &mut *right);
-        self.sounded_twice(called, left, right, out, at)
-    }
-
-    fn mixed_into(
-        self,
-        ram: &[u8],
-        queues: &mut [i16],
-        left: &mut [i16],
-        right: &mut [i16],
-        out: &mut [u8],
-        at: usize,
-    ) -> Played {
-        let chip = self.chip;
-        let called = chip.clock_mixed_into(ram, queues, &mut *left, &mut *right);
-        self.sounded_twice(called, left, right, out, at)
-    }
-
-    // Two sides that hold samples from a seed.
-    fn sides_over(
-        self,
-        code: u8,
-        seed: u64,
-        ram: &[u8],
-        queues: &mut [i16],
-        left: &mut [i16],
-        right: &mut [i16],
-        out: &mut [u8],
-        at: usize,
-    ) -> Played {
-        let x = fill(&mut *left, seed);
-        fill(&mut *right, x);
-        if code == b'X' {
-            return self.mixed(ram, queues, left, right, out, at);
-        }
-        self.mixed_into(ram, queues, left, right, out, at)
-    }
-
-    pub fn sides(
+    pub(crate) fn sides(
         self,
         code: u8,
         f: &[u64],
@@ -144,72 +113,50 @@ impl Player {
         queues: &mut [i16],
         out: &mut [u8],
         at: usize,
-    ) -> Played {
+    ) -> Player {
+        let chip = self.chip;
         let mut left = [0i16; 1024];
         let mut right = [0i16; 1024];
         let l = num::least(fields::size(f, 0), 1024);
         let r = num::least(fields::size(f, 1), 1024);
         let seed = fields::long(f, 2);
-        self.sides_over(
+        let called = mixed(
+            chip,
             code,
             seed,
             ram,
             queues,
             &mut left[..l],
             &mut right[..r],
-            out,
-            at,
-        )
-    }
-
-    fn mixed_into_wide(
-        self,
-        ram: &[u8],
-        queues: &mut [i16],
-        left: &mut [i32],
-        right: &mut [i32],
-        out: &mut [u8],
-        at: usize,
-    ) -> Played {
-        let chip = self.chip;
-        let called = chip.clock_mixed_into_i32(ram, queues, &mut *left, &mut *right);
+        );
+        let next = called.chip;
         let answer = called.answer;
-        if is_done(answer) {
-            let next = called.chip;
-            let end = fields::put_wide_samples(&mut *out, at, left);
-            return self.with(next, fields::put_wide_samples(out, end, right));
-        }
-        self.after(called, out, at)
+        self.with(next, put_sides(out, at, answer, &left, l, &right, r))
     }
 
-    fn wide_sides_over(
-        self,
-        seed: u64,
-        ram: &[u8],
-        queues: &mut [i16],
-        left: &mut [i32],
-        right: &mut [i32],
-        out: &mut [u8],
-        at: usize,
-    ) -> Played {
-        let x = fill_wide(&mut *left, seed);
-        fill_wide(&mut *right, x);
-        self.mixed_into_wide(ram, queues, left, right, out, at)
-    }
-
-    pub fn wide_sides(
+    pub(crate) fn wide_sides(
         self,
         f: &[u64],
         ram: &[u8],
         queues: &mut [i16],
         out: &mut [u8],
         at: usize,
-    ) -> Played {
+    ) -> Player {
+        let chip = self.chip;
         let mut left = [0i32; 1024];
         let mut right = [0i32; 1024];
         let l = num::least(fields::size(f, 0), 1024);
         let r = num::least(fields::size(f, 1), 1024);
-        let seed = fields::long(f, 2);
-        self.wide_sides_over(seed, ram, queues, &mut left[..l], &mut right[..r], out, at)
+        let called = mixed_wide(
+            chip,
+            fields::long(f, 2),
+            ram,
+            queues,
+            &mut left[..l],
+            &mut right[..r],
+        );
+        let next = called.chip;
+        let answer = called.answer;
+        self.with(next, put_wide_sides(out, at, answer, &left, l, &right, r))
     }
 }

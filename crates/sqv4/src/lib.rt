@@ -41,7 +41,7 @@ pub enum Inspected {
 }
 
 // What is wrong with a fragment.
-pub(crate) enum Fault {
+pub enum Fault {
     Fine,
     Step(u8),
     Padding,

@@ -16,8 +16,8 @@ lent-requires c κs = search needs
 version-requires : tie.Need-version-requires
 version-requires c κs = search needs
 
-fresh-requires : tie.Need-fresh-requires
-fresh-requires c κs = search needs
+made-requires : tie.Need-made-requires
+made-requires c κs = search needs
 
 lent-requires-2 : tie.Need-lent-requires-2
 lent-requires-2 c κs = search needs
@@ -31,20 +31,20 @@ least-requires c κs = search needs
 least-requires-2 : tie.Need-least-requires-2
 least-requires-2 c κs = search needs
 
-slice-relend-prefix-call : tie.Need-slice-relend-prefix-call
-slice-relend-prefix-call c = search needs
+slice-relend-prefix-answer : tie.Need-slice-relend-prefix-answer
+slice-relend-prefix-answer c = search needs
 
-slice-aggregate-call : tie.Need-slice-aggregate-call
-slice-aggregate-call c = sym (length-take-le _ _ (search needs))
+slice-aggregate-answer : tie.Need-slice-aggregate-answer
+slice-aggregate-answer c = sym (length-take-le _ _ (search needs))
 
-slice-relend-prefix-call-2 : tie.Need-slice-relend-prefix-call-2
-slice-relend-prefix-call-2 c = search needs
+slice-relend-prefix-answer-2 : tie.Need-slice-relend-prefix-answer-2
+slice-relend-prefix-answer-2 c = search needs
 
-slice-aggregate-call-2 : tie.Need-slice-aggregate-call-2
-slice-aggregate-call-2 c = sym (length-take-le _ _ (search needs))
+slice-aggregate-answer-2 : tie.Need-slice-aggregate-answer-2
+slice-aggregate-answer-2 c = sym (length-take-le _ _ (search needs))
 
-call-requires : tie.Need-call-requires
-call-requires c κs = search needs
+answer-requires : tie.Need-answer-requires
+answer-requires c κs = search needs
 
 returns : tie.Need-returns
 returns c = search needs
@@ -78,16 +78,16 @@ play-spec =
     size-requires-2
     lent-requires
     version-requires
-    fresh-requires
+    made-requires
     lent-requires-2
     after-requires
     least-requires
     least-requires-2
-    slice-relend-prefix-call
-    slice-aggregate-call
-    slice-relend-prefix-call-2
-    slice-aggregate-call-2
-    call-requires
+    slice-relend-prefix-answer
+    slice-aggregate-answer
+    slice-relend-prefix-answer-2
+    slice-aggregate-answer-2
+    answer-requires
     returns
     same-length
     same-length-2

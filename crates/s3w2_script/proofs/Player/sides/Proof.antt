@@ -22,17 +22,23 @@ long-requires c κs = search needs
 array-borrow-prefix-left : tie.Need-array-borrow-prefix-left
 array-borrow-prefix-left c = search needs
 
-slice-aggregate-sides-over : tie.Need-slice-aggregate-sides-over
-slice-aggregate-sides-over c = sym (length-take-le _ _ (search needs))
+slice-aggregate-mixed : tie.Need-slice-aggregate-mixed
+slice-aggregate-mixed c = sym (length-take-le _ _ (search needs))
 
 array-borrow-prefix-right : tie.Need-array-borrow-prefix-right
 array-borrow-prefix-right c = search needs
 
-slice-aggregate-sides-over-2 : tie.Need-slice-aggregate-sides-over-2
-slice-aggregate-sides-over-2 c = sym (length-take-le _ _ (search needs))
+slice-aggregate-mixed-2 : tie.Need-slice-aggregate-mixed-2
+slice-aggregate-mixed-2 c = sym (length-take-le _ _ (search needs))
 
-sides-over-requires : tie.Need-sides-over-requires
-sides-over-requires c κs = search needs
+mixed-requires : tie.Need-mixed-requires
+mixed-requires c κs = search needs
+
+put-sides-requires : tie.Need-put-sides-requires
+put-sides-requires c κs = search needs
+
+with-requires : tie.Need-with-requires
+with-requires c κs = search needs
 
 same-length : tie.Need-same-length
 same-length c = search needs
@@ -53,10 +59,12 @@ sides-spec =
     least-requires-2
     long-requires
     array-borrow-prefix-left
-    slice-aggregate-sides-over
+    slice-aggregate-mixed
     array-borrow-prefix-right
-    slice-aggregate-sides-over-2
-    sides-over-requires
+    slice-aggregate-mixed-2
+    mixed-requires
+    put-sides-requires
+    with-requires
     same-length
     same-length-2
     returns)

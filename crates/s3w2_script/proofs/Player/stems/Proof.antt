@@ -16,11 +16,17 @@ size-requires-2 c κs = search needs
 array-borrow-prefix-stems : tie.Need-array-borrow-prefix-stems
 array-borrow-prefix-stems c = search needs
 
-slice-aggregate-stems-over : tie.Need-slice-aggregate-stems-over
-slice-aggregate-stems-over c = sym (length-take-le _ _ (search needs))
+slice-aggregate-clock : tie.Need-slice-aggregate-clock
+slice-aggregate-clock c = sym (length-take-le _ _ (search needs))
 
-stems-over-requires : tie.Need-stems-over-requires
-stems-over-requires c κs = search needs
+clock-requires : tie.Need-clock-requires
+clock-requires c κs = search needs
+
+put-stems-requires : tie.Need-put-stems-requires
+put-stems-requires c κs = search needs
+
+with-requires : tie.Need-with-requires
+with-requires c κs = search needs
 
 same-length : tie.Need-same-length
 same-length c = search needs
@@ -39,8 +45,10 @@ stems-spec =
     least-requires
     size-requires-2
     array-borrow-prefix-stems
-    slice-aggregate-stems-over
-    stems-over-requires
+    slice-aggregate-clock
+    clock-requires
+    put-stems-requires
+    with-requires
     same-length
     same-length-2
     returns)

@@ -22,17 +22,23 @@ long-requires c κs = search needs
 array-borrow-prefix-left : tie.Need-array-borrow-prefix-left
 array-borrow-prefix-left c = search needs
 
-slice-aggregate-wide-sides-over : tie.Need-slice-aggregate-wide-sides-over
-slice-aggregate-wide-sides-over c = sym (length-take-le _ _ (search needs))
+slice-aggregate-mixed-wide : tie.Need-slice-aggregate-mixed-wide
+slice-aggregate-mixed-wide c = sym (length-take-le _ _ (search needs))
 
 array-borrow-prefix-right : tie.Need-array-borrow-prefix-right
 array-borrow-prefix-right c = search needs
 
-slice-aggregate-wide-sides-over-2 : tie.Need-slice-aggregate-wide-sides-over-2
-slice-aggregate-wide-sides-over-2 c = sym (length-take-le _ _ (search needs))
+slice-aggregate-mixed-wide-2 : tie.Need-slice-aggregate-mixed-wide-2
+slice-aggregate-mixed-wide-2 c = sym (length-take-le _ _ (search needs))
 
-wide-sides-over-requires : tie.Need-wide-sides-over-requires
-wide-sides-over-requires c κs = search needs
+mixed-wide-requires : tie.Need-mixed-wide-requires
+mixed-wide-requires c κs = search needs
+
+put-wide-sides-requires : tie.Need-put-wide-sides-requires
+put-wide-sides-requires c κs = search needs
+
+with-requires : tie.Need-with-requires
+with-requires c κs = search needs
 
 same-length : tie.Need-same-length
 same-length c = search needs
@@ -53,10 +59,12 @@ wide-sides-spec =
     least-requires-2
     long-requires
     array-borrow-prefix-left
-    slice-aggregate-wide-sides-over
+    slice-aggregate-mixed-wide
     array-borrow-prefix-right
-    slice-aggregate-wide-sides-over-2
-    wide-sides-over-requires
+    slice-aggregate-mixed-wide-2
+    mixed-wide-requires
+    put-wide-sides-requires
+    with-requires
     same-length
     same-length-2
     returns)

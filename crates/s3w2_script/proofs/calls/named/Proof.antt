@@ -1,8 +1,8 @@
-use lib.Seq.{length-take-le}
 use mathlib.Core.Path.{_≡_, sym}
 use Prim.Native.Nat.{_≤_, _-_}
-use native.Mathlib.Omega.{arith}
 use lib.ListN.{length}
+use lib.Seq.{length-take-le}
+use native.Mathlib.Omega.{arith}
 use borrow.Author.Needs.{needs}
 use Rattle.s3w2_script.proofs.calls.named.Statement.{statement}
 use Rattle.s3w2_script.proofs.calls.named.Tie as tie
@@ -55,9 +55,6 @@ returns c = search needs
 number-requires : tie.Need-number-requires Inv-loop μ-loop
 number-requires c κs = search needs
 
-cast-result : tie.Need-cast-result Inv-loop μ-loop
-cast-result c = search needs
-
 returns-2 : tie.Need-returns-2 Inv-loop μ-loop
 returns-2 c = search needs
 
@@ -81,5 +78,4 @@ named-spec =
     enum-told
     returns
     number-requires
-    cast-result
     returns-2)

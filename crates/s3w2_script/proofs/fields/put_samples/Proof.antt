@@ -1,27 +1,33 @@
 use mathlib.Core.Path.{_≡_}
-use Prim.Native.Nat.{_-_}
+use Prim.Native.Nat.{_≤_, _-_}
 use lib.ListN.{length}
 use borrow.Author.Needs.{needs}
 use Rattle.s3w2_script.proofs.fields.put_samples.Statement.{statement}
 use Rattle.s3w2_script.proofs.fields.put_samples.Tie as tie
 
 abbrev Inv-loop : tie.InvT-loop
-Inv-loop out₀ at samples end₀ i₀ i-end out end i = (i-end ≡ length samples) × (length out ≡ length out₀)
+Inv-loop out₀ at samples from to end₀ i₀ i-end out end i = (i-end ≤ length samples) × (length out ≡ length out₀)
 
 abbrev μ-loop : tie.MeasureT-loop
-μ-loop out₀ at samples end₀ i₀ i-end out end i = i-end - i
+μ-loop out₀ at samples from to end₀ i₀ i-end out end i = i-end - i
+
+least-requires : tie.Need-least-requires Inv-loop μ-loop
+least-requires c κs = search needs
 
 loop-holds : tie.Need-loop-holds Inv-loop μ-loop
 loop-holds c = search needs
 
-mul-put-sample : tie.Need-mul-put-sample Inv-loop μ-loop
-mul-put-sample c = search needs
+mul-long-sample : tie.Need-mul-long-sample Inv-loop μ-loop
+mul-long-sample c = search needs
 
-shared-slice-copy-out-put-sample : tie.Need-shared-slice-copy-out-put-sample Inv-loop μ-loop
-shared-slice-copy-out-put-sample c = search needs
+shared-slice-copy-out-long-sample : tie.Need-shared-slice-copy-out-long-sample Inv-loop μ-loop
+shared-slice-copy-out-long-sample c = search needs
 
-put-sample-requires : tie.Need-put-sample-requires Inv-loop μ-loop
-put-sample-requires c κs = search needs
+long-sample-requires : tie.Need-long-sample-requires Inv-loop μ-loop
+long-sample-requires c κs = search needs
+
+put-number-requires : tie.Need-put-number-requires Inv-loop μ-loop
+put-number-requires c κs = search needs
 
 add-i : tie.Need-add-i Inv-loop μ-loop
 add-i c = search needs
@@ -44,10 +50,12 @@ put-samples-spec =
     (tie.spec
     Inv-loop
     μ-loop
+    least-requires
     loop-holds
-    mul-put-sample
-    shared-slice-copy-out-put-sample
-    put-sample-requires
+    mul-long-sample
+    shared-slice-copy-out-long-sample
+    long-sample-requires
+    put-number-requires
     add-i
     loop-less
     loop-again
