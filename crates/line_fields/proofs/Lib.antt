@@ -6,3 +6,4 @@ pub mod Good
 pub mod Trip
 pub mod Size
 mod Examples
+pub mod Numbers

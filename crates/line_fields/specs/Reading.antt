@@ -120,3 +120,16 @@ fieldsOf (malformed ns field) = fields.Malformed field
 abbrev pub lineNumbers : ReadLine → List ℕ
 lineNumbers (line ns) = ns
 lineNumbers (malformed ns field) = ns
+
+-- ---- document 01's number of an answer, and the field at fault; one that is no refusal has none
+abbrev pub partNumber : Part → List ℕ
+partNumber (At number next) = []
+partNumber (Malformed field) = 16 ∷ field ∷ []
+
+abbrev pub partsNumber : Parts → List ℕ
+partsNumber (parts.Upto next) = []
+partsNumber (parts.Malformed field) = 16 ∷ field ∷ []
+
+abbrev pub fieldsNumber : Fields → List ℕ
+fieldsNumber (fields.Count n) = []
+fieldsNumber (fields.Malformed field) = 16 ∷ field ∷ []

@@ -34,7 +34,7 @@ writtenOf out text = cond (leb (length text) (length out)) (Length (length text)
 abbrev pub putOf : List ℕ → List ℕ → List ℕ
 putOf out text = cond (leb (length text) (length out)) (sets out 0 text) out
 
--- document 01's number
-abbrev pub refusalOf : Written → ℕ
-refusalOf (Length n) = 0
-refusalOf TextBuffer = 15
+-- document 01's number of an answer; one that is no refusal has none
+abbrev pub writtenNumber : Written → List ℕ
+writtenNumber (Length n) = []
+writtenNumber TextBuffer = 15 ∷ []

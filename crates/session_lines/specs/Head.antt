@@ -28,3 +28,8 @@ headOf text NoNatural = Malformed 2
 unfoldable pub readHead : List ℕ → HeadLine
 readHead text =
     cond (hasMagic text) (cond (eqb (getD text 4 0) 44) (headOf text (naturalAt text 5)) (Malformed (cond (endsAt text 4) 2 1))) (Malformed 1)
+
+-- document 01's number of an answer, and the field at fault
+abbrev pub headLineNumber : HeadLine → List ℕ
+headLineNumber (Version version) = []
+headLineNumber (Malformed field) = 16 ∷ field ∷ []

@@ -1,6 +1,6 @@
 -- A voice line written, and what reading one does.
 use mathlib.Core.Bool.{cond}
-use mathlib.Core.List.{List, []}
+use mathlib.Core.List.{List, [], _∷_}
 use Prim.Native.Nat.{ℕ}
 use lib.Dec.{leb}
 use lib.IntN.{ℤ}
@@ -72,11 +72,7 @@ abbrev pub queueAfter : ReadVoice → List ℤ → List ℤ
 queueAfter (voice v) q = sets q 0 (v .samples)
 queueAfter (malformed field) q = q
 
--- document 01's number and the field
-pub data Refusal : Type 0 where
-  none : Refusal
-  refused : ℕ → ℕ → Refusal
-
-abbrev pub refusalOf : VoiceLine → Refusal
-refusalOf (told.Voice ch) = none
-refusalOf (told.Malformed field) = refused 16 field
+-- document 01's number of an answer, and the field at fault
+abbrev pub voiceLineNumber : VoiceLine → List ℕ
+voiceLineNumber (told.Voice ch) = []
+voiceLineNumber (told.Malformed field) = 16 ∷ field ∷ []

@@ -16,6 +16,7 @@ use Rattle.sqv4.specs.declared.Header.{Header}
 use Rattle.sqv4.specs.Files.{frameLength, fragmentAt, inspected}
 use Rattle.sqv4.specs.Decoding.{codesFrom, sounds, startOf, samplesOf}
 use Rattle.sqv4.proofs.Sizes.{narrow}
+use Rattle.sqv4.proofs.Runs.{code-at}
 use Rattle.sqv4.specs.Whole.{samplesFrom, stateFrom, stateAfter, pieces, channelWhole, wholeOf, decodedInto}
 use Rattle.sqv4_writer.specs.Choice.{valueAt, distanceOf, lastCode, codeFor, codesFor, valuesFor}
 use Rattle.sqv4_writer.specs.Packing.{packed}
@@ -28,12 +29,12 @@ use Rattle.sqv4_writer.proofs.Written.{all-codes, packed-number, length
 use Rattle.sqv4_writer.proofs.Passes.{passes}
 
 -- ---- packed codes are unpacked
-codes-back : (k : Variant) (payload cs : List ℕ) (i : ℕ) → ((j : ℕ) → codeAt payload (i + j) (bitsOf k) ≡ getD cs j 0) → codesFrom k payload i (length cs) ≡ cs
+codes-back : (k : Variant) (payload cs : List ℕ) (i : ℕ) → ((j : ℕ) → j < length cs → codeAt payload (i + j) (bitsOf k) ≡ getD cs j 0) → codesFrom k payload i (length cs) ≡ cs
 unfolding codesFrom
 codes-back k payload [] i e = refl
 codes-back k payload (c ∷ cs) i e =
-    ap₂ (λ (x : ℕ) (l : List ℕ). x ∷ l) (ap (λ (n : ℕ). codeAt payload n (bitsOf k)) (sym (N.add-zero i)) ∙ e 0)
-    (codes-back k payload cs (suc i) (λ j. ap (λ (n : ℕ). codeAt payload n (bitsOf k)) (next i j) ∙ e (suc j)))
+    ap₂ (λ (x : ℕ) (l : List ℕ). x ∷ l) (ap (λ (n : ℕ). codeAt payload n (bitsOf k)) (sym (N.add-zero i)) ∙ e 0 (omega arith))
+    (codes-back k payload cs (suc i) (λ j h. ap (λ (n : ℕ). codeAt payload n (bitsOf k)) (next i j) ∙ e (suc j) (omega arith)))
   where
     next : (i j : ℕ) → suc i + j ≡ i + suc j
     next i j = omega arith
@@ -41,12 +42,17 @@ codes-back k payload (c ∷ cs) i e =
 uncut : (k : Variant) → min (bitsOf k) 8 ≡ bitsOf k
 uncut k = omega (arith, narrow k)
 
+-- the bit at which a code of a fragment begins
+early : (k : Variant) (j : ℕ) → j < fragmentSamples → (0 + j) * bitsOf k < 2 ^ 64
+early k j h = let p : (0 + j) * bitsOf k ≤ 63 * 4 = N.mul-le-mul {n₁ = 0 + j} {m₁ = bitsOf k} {n₂ = 63} {m₂ = 4} (omega arith) (narrow k) in omega (arith, p)
+
 unpacked : (k : Variant) (volume : ℕ) (s : State) (xs : List ℤ) → length xs ≤ fragmentSamples → codesFrom k (packed k (codesFor k volume s xs)) 0 (length xs) ≡ codesFor k volume s xs
 unpacked k volume s xs few =
     let cs = codesFor k volume s xs in
     ap (codesFrom k (packed k cs) 0) (sym (length-codes-for k volume s xs))
     ∙ codes-back k (packed k cs) cs 0
-    (λ j. ap (λ (w : ℕ). field (packed k cs) ((0 + j) * w) w) (uncut k)
+    (λ j h. sym (code-at k (bitsOf k) refl (packed k cs) (0 + j) ((0 + j) * bitsOf k) (early k j (omega (arith, length-codes-for k volume s xs))) refl)
+    ∙ ap (field (packed k cs) ((0 + j) * bitsOf k)) (uncut k)
     ∙ ap₂ (λ (n i : ℕ). n / 2 ^ (i * bitsOf k) % 2 ^ bitsOf k) (packed-number k volume s xs few) (N.zero-add j)
     ∙ number-at (bitsOf k) cs (all-codes k volume s xs) j)
 
