@@ -3,40 +3,21 @@ use mathlib.Core.Path.{_≡_, ap, _∙_}
 use mathlib.Core.List.{List}
 use Prim.Native.Nat.{ℕ, _+_, _-_}
 use native.Mathlib.Omega.{arith}
-use lib.Dec.{eqb}
 use lib.IntN.{ℤ}
 use lib.ListN.{take, drop}
 use Rattle.sizes.specs.Sizes.{fifoCapacity}
 use Rattle.num.specs.Lists.{part}
-use Rattle.registers.specs.declared.PcmRegisters.{PcmRegisters}
-use Rattle.registers.specs.declared.WaveformType.{WaveformType}
-use Rattle.ticks.specs.Sounds.{soundTicks}
 use Rattle.ticks.specs.Queues.{queueTicks}
 use Rattle.ticks.specs.declared.QueueSound.{QueueSound}
-use Rattle.ticks.specs.declared.Setting.{Setting}
-use Rattle.ticks.specs.declared.Sound.{Sound}
-use Rattle.ticks.specs.declared.Target.{Target}
 use Rattle.stream.specs.declared.Play.{Play}
 use Rattle.stream.specs.declared.Window.{Window}
 use Rattle.voice.specs.Serving.{servedTicks}
-use Rattle.voice.specs.Streaming.{Lent, lent, streamTicksAt}
 use Rattle.voice.specs.declared.Served.{Served}
-use Rattle.voice.specs.declared.StreamSound.{StreamSound}
-
-pub sound-is : (n : ℕ) (k : WaveformType) (s s' : Setting) (p : PcmRegisters) (w ram : List ℕ) (ch a a' : ℕ) (t : Target) (v v' r : Sound)
-    → s ≡ s' → a ≡ a' → v ≡ v' → r ≡ soundTicks n k s p w ram ch (eqb a ch) t v → r ≡ soundTicks n k s' p w ram ch (eqb a' ch) t v'
-sound-is n k s s' p w ram ch a a' t v v' r es ea ev e =
-    e ∙ ap (λ (x : Setting). soundTicks n k x p w ram ch (eqb a ch) t v) es ∙ ap (λ (x : ℕ). soundTicks n k s' p w ram ch (eqb x ch) t v) ea ∙ ap (soundTicks n k s' p w ram ch (eqb a' ch) t) ev
 
 pub served-is : (n : ℕ) (w w' : Window) (samples : List ℤ) (base : ℕ) (p p' : Play) (volume panpot : ℕ) (v v' r : Served)
     → w ≡ w' → p ≡ p' → v ≡ v' → r ≡ servedTicks n w samples base p volume panpot v → r ≡ servedTicks n w' samples base p' volume panpot v'
 served-is n w w' samples base p p' volume panpot v v' r ew ep ev e =
     e ∙ ap (λ (x : Window). servedTicks n x samples base p volume panpot v) ew ∙ ap (λ (x : Play). servedTicks n w' samples base x volume panpot v) ep ∙ ap (servedTicks n w' samples base p' volume panpot) ev
-
-pub stream-is : (base n : ℕ) (ram : List ℕ) (p p' : Play) (volume panpot : ℕ) (v v' : StreamSound) (samples : List ℤ) (r : Lent)
-    → p ≡ p' → v ≡ v' → r ≡ streamTicksAt base n ram p volume panpot (lent v samples) → r ≡ streamTicksAt base n ram p' volume panpot (lent v' samples)
-stream-is base n ram p p' volume panpot v v' samples r ep ev e =
-    e ∙ ap (λ (x : Play). streamTicksAt base n ram x volume panpot (lent v samples)) ep ∙ ap (λ (x : StreamSound). streamTicksAt base n ram p' volume panpot (lent x samples)) ev
 
 pub queue-is : (n frequency panpot from to : ℕ) (queues : List ℤ) (v v' r : QueueSound) → to ≡ from + fifoCapacity → v ≡ v' → r ≡ queueTicks n frequency panpot (take (to - from) (drop from queues)) v
     → r ≡ queueTicks n frequency panpot (part queues from fifoCapacity) v'

@@ -11,3 +11,4 @@ pub mod Asks
 pub mod Framing
 pub mod Wells
 pub mod Heard
+pub mod OneVoice

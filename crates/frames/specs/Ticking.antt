@@ -1,24 +1,20 @@
 -- A voice's ticks where it stands among the eight.
-use mathlib.Core.Bool.{true}
 use mathlib.Core.List.{List}
 use Prim.Native.Nat.{ℕ, _*_}
-use lib.Dec.{eqb}
-use lib.IntN.{ℤ, pos}
+use lib.IntN.{ℤ}
 use Rattle.sizes.specs.Sizes.{fifoCapacity}
 use Rattle.num.specs.Lists.{part}
 use Rattle.version.specs.declared.SguVersion.{SguVersion}
 use Rattle.registers.specs.Control.{targetChannel}
 use Rattle.ticks.specs.Again.{again}
 use Rattle.ticks.specs.Oscillators.{targetFrom}
-use Rattle.ticks.specs.Settings.{settingOf}
-use Rattle.ticks.specs.Sounds.{soundTicks}
-use Rattle.ticks.specs.Queues.{queueTicks}
 use Rattle.ticks.specs.declared.Sides.{Sides}
 use Rattle.ticks.specs.declared.Target.{Target}
 use Rattle.ticks.specs.declared.Sound.{Sound}
 use Rattle.ticks.specs.declared.QueueSound.{QueueSound}
-use Rattle.voice.specs.Sounding.{kindOf, playOf, afterSound, afterQueue, afterStream}
-use Rattle.voice.specs.Streaming.{Lent, lent, streamTicksAt}
+use Rattle.voice.specs.Sounding.{kindOf, afterSound, afterQueue, afterStream}
+use Rattle.voice.specs.Streaming.{Lent}
+use Rattle.voice.specs.Ticking.{channelSound, channelQueue, channelStream}
 use Rattle.voice.specs.declared.Channel.{Channel}
 use Rattle.voice.specs.declared.Kind.{Kind}
 use Rattle.voice.specs.declared.Kind.the-variants.{Silent, Oscillator, Sqv4, FifoDac}
@@ -43,19 +39,15 @@ module _ (version : SguVersion) (ram : List ℕ) (queues : List ℤ) (ch n : ℕ
   modulator = targetFrom (channelAt core target .oscillator) version (channelAt core target .pcm .«sample_control»)
 
   abbrev pub soundFrom : Sound
-  soundFrom =
-      soundTicks n (c .registers .«waveform_type») (settingOf (c .registers) (c .pcm .«sample_control») version) (c .pcm) (core .wavetables) ram ch (eqb target ch) modulator
-      (record { oscillator = c .oscillator; sides = sides })
+  soundFrom = channelSound version (core .wavetables) ram ch modulator n sides c
 
   -- its queue is the 2,048 entries from 2,048 times the channel on
   abbrev pub queueFrom : QueueSound
-  queueFrom = queueTicks n (c .registers .frequency) (c .registers .panpot) (part queues (ch * fifoCapacity) fifoCapacity) (record { fifo = c .fifo; sides = sides })
+  queueFrom = channelQueue (part queues (ch * fifoCapacity) fifoCapacity) n sides c
 
   -- its decoded fragments are the 128 samples from 128 times the channel on
   abbrev pub streamFrom : Lent
-  streamFrom =
-      streamTicksAt (ch * 128) n ram (playOf c version) (c .registers .volume) (c .registers .panpot)
-      (lent (record { voice = record { cache = c .stream; phase = c .oscillator .phase; active = true; q8 = pos 0 }; sides = sides }) (core .fragments))
+  streamFrom = channelStream version (core .fragments) (ch * 128) ram n sides c
 
 -- ---- the same, stored
 module _ (version : SguVersion) (ram : List ℕ) (queues : List ℤ) (ch : ℕ) where

@@ -52,3 +52,7 @@ module _ (version : SguVersion) (ram : List ℕ) (queues : List ℤ) where
   -- turns that ask for something else are none
   unfoldable pub runOf : ℕ → ℕ → ℕ → Core → Turns
   runOf first n k core = cond (mayRun n core) (turned first n k core) (noTurn core)
+
+  -- one tick of one voice; queue entries of another number give none
+  unfoldable pub singleTick : ℕ → Core → Turns
+  singleTick ch core = cond (eqb (length queues) queueBuffer) (turned ch 1 1 core) (noTurn core)

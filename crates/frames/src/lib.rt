@@ -1,8 +1,10 @@
 // Turns of the eight voices: so many ticks of one after another.
 mod loops;
 mod moves;
+mod single;
 
 pub use loops::run;
+pub use single::tick;
 use version::SguVersion;
 use voices::Core;
 

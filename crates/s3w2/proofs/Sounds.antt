@@ -12,7 +12,7 @@ use Rattle.sizes.specs.Sizes.{numChannels, queueBuffer}
 use Rattle.version.specs.declared.SguVersion.{SguVersion}
 use Rattle.voices.specs.declared.Core.{Core}
 use Rattle.voices.specs.Accepted.{acceptsCore}
-use Rattle.frames.specs.Turning.{Turns, turned, runOf, afterTurns}
+use Rattle.frames.specs.Turning.{noTurn, turned, runOf, singleTick, afterTurns}
 use Rattle.frames.specs.declared.Turned.{Turned}
 use Rattle.frames.proofs.Asks.{asked, ran}
 use Rattle.s3w2.specs.declared.Chip.{Chip}
@@ -28,6 +28,11 @@ pub run-open : (version : SguVersion) (ram : List ℕ) (queues : List ℤ) (firs
 run-open version ram queues first n k core lent low high ok =
     sym (ran version ram queues n core first k (sym (asked version ram queues n core (eqb-true (length queues) queueBuffer lent) low high) ∙ ok))
 
+single-open : (version : SguVersion) (ram : List ℕ) (queues : List ℤ) (ch : ℕ) (core : Core) → eqb (length queues) queueBuffer ≡ true
+    → singleTick version ram queues ch core ≡ turned version ram queues ch 1 1 core
+unfolding singleTick
+single-open version ram queues ch core lent = ap (λ (b : Bool). cond b (turned version ram queues ch 1 1 core) (noTurn core)) lent
+
 module _ (chip : Chip) (ram : List ℕ) (queues : List ℤ) (ch : ℕ) where
   abbrev given : Called
   given = answered (withCore chip (oneTick chip ram queues ch .core)) (Sample (oneTick chip ram queues ch .sample))
@@ -35,9 +40,9 @@ module _ (chip : Chip) (ram : List ℕ) (queues : List ℤ) (ch : ℕ) where
   pub sample-none : 7 < ch → answered chip (Sample (pos 0)) ≡ cond (ltb ch numChannels) given (answered chip (Sample (pos 0)))
   sample-none h = sym (ap (λ (t : Bool). cond t given (answered chip (Sample (pos 0)))) (le-ltb ch numChannels h))
 
-  pub sample-some : (core : Core) (sample : ℤ) → ch ≤ 7 → eqb (length queues) queueBuffer ≡ true → acceptsCore (chip .core) (chip .version) (length ram) ≡ true
-      → record { core = core; sample = sample } ≡ afterTurns (runOf (chip .version) ram queues ch 1 1 (chip .core))
+  pub sample-some : (core : Core) (sample : ℤ) → ch ≤ 7 → eqb (length queues) queueBuffer ≡ true
+      → record { core = core; sample = sample } ≡ afterTurns (singleTick (chip .version) ram queues ch (chip .core))
       → answered (withCore chip core) (Sample sample) ≡ cond (ltb ch numChannels) given (answered chip (Sample (pos 0)))
-  sample-some core sample h q a e =
-      let r : _≡_ {A = Turned} (record { core = core; sample = sample }) (afterTurns (oneTick chip ram queues ch)) = e ∙ ap afterTurns (run-open (chip .version) ram queues ch 1 1 (chip .core) q (omega arith) (omega arith) a) in
+  sample-some core sample h q e =
+      let r : _≡_ {A = Turned} (record { core = core; sample = sample }) (afterTurns (oneTick chip ram queues ch)) = e ∙ ap afterTurns (single-open (chip .version) ram queues ch (chip .core) q) in
       ap (λ (t : Turned). answered (withCore chip (t .core)) (Sample (t .sample))) r ∙ sym (ap (λ (t : Bool). cond t given (answered chip (Sample (pos 0)))) (lt-ltb ch numChannels (omega arith)))

@@ -22,8 +22,7 @@ impl Chip {
             return self.answers(Answer::Sample(0));
         }
         let version = self.version;
-        let mut stems = [0i16; 2];
-        let next = frames::run(self.core, version, ram, queues, ch, 1, &mut stems);
+        let next = frames::tick(self.core, version, ram, queues, ch);
         self.with_core(next.core, Answer::Sample(next.sample))
     }
 

@@ -4,3 +4,5 @@ pub mod Keeps
 pub mod Clears
 pub mod StreamTicks
 pub mod ServedTicks
+pub mod Calls
+pub mod OneTick

@@ -6,3 +6,4 @@ pub mod Accepted
 pub mod Sounding
 pub mod Streaming
 pub mod Serving
+pub mod Ticking

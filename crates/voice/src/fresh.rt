@@ -12,23 +12,31 @@ use ticks::Oscillator;
 use version::SguVersion;
 
 impl Channel {
+    // A channel that was just made.
     pub fn default() -> Channel
         ensures { λ r. ⌜ r ≡ defaultChannel ⌝ }
     {
-        Channel {
+        let c = Channel {
             oscillator: Oscillator::default(),
             fifo: Fifo::default(),
             stream: StreamCache::empty(),
             pcm: PcmRegisters::default(),
             registers: Registers::default(),
-        }
+        };
+        c.reset()
     }
 
-    // Wavetable and decoded fragments are beside the channel.
-    pub fn reset(self) -> Channel
+    // Every register and all that ticks move begins anew. Wavetable and decoded fragments are beside the channel.
+    pub fn reset(mut self) -> Channel
         ensures { λ r. ⌜ r ≡ defaultChannel ⌝ }
     {
-        Channel::default()
+        let g = Registers::default();
+        let p = PcmRegisters::default();
+        let o = Oscillator::default();
+        self.registers = g;
+        self.pcm = p;
+        self.oscillator = o;
+        self.reset_fifo().invalidate_sqv4()
     }
 
     pub fn reset_fifo(mut self) -> Channel

@@ -5,6 +5,7 @@ mod reads;
 mod serving;
 mod sounding;
 mod streaming;
+mod ticking;
 mod writes;
 
 use registers::Fifo;
@@ -43,5 +44,11 @@ pub struct Served {
     pub ticks: usize,
     pub phase: u64,
     pub q8: i32,
+    pub sides: Sides,
+}
+
+// A channel after one tick, and what the tick gave to the two sides.
+pub struct ChannelTick {
+    pub channel: Channel,
     pub sides: Sides,
 }

@@ -10,6 +10,7 @@ use version::SguVersion;
 use voice::Channel;
 
 impl Core {
+    // Eight voices that were just made.
     pub fn default() -> Core
         ensures { λ r. ⌜ r ≡ freshCore ⌝ }
     {
@@ -33,16 +34,18 @@ impl Core {
         core
     }
 
+    // A voice reset, with its wavetable and its decoded fragments; a channel above 7 is none.
     pub fn reset_channel(self, ch: usize) -> Core
         ensures { λ r. ⌜ r ≡ resetChannelAt self ch ⌝ }
     {
         if ch < NUM_CHANNELS {
-            return self.stored(ch, Channel::default(), true)
-                .reset_wavetable(ch);
+            let c = self.channels[ch];
+            return self.stored(ch, c.reset(), true).reset_wavetable(ch);
         }
         self
     }
 
+    // The eight voices under another version.
     pub fn set_version(self, version: SguVersion) -> Core
         ensures { λ r. ⌜ r ≡ setCoreVersion self version ⌝ }
     {

@@ -4,8 +4,8 @@ use native.Mathlib.Omega.{arith}
 use lib.ListN.{length}
 use Rattle.ticks.specs.declared.Sound.{Sound}
 use Rattle.voice.specs.Sounding.{afterSound}
+use Rattle.voice.proofs.Calls.{sound-is}
 use Rattle.frames.specs.Kept.{Kept}
-use Rattle.frames.proofs.Calls.{sound-is}
 use Rattle.frames.proofs.Fits.{fit-channel}
 use Rattle.frames.proofs.Keeping.{sound-kept}
 use Rattle.frames.proofs.Round.oscillator.Statement.{statement}

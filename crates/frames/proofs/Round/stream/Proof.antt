@@ -1,5 +1,5 @@
 use borrow.Author.Needs.{needs}
-use Rattle.frames.proofs.Calls.{stream-is}
+use Rattle.voice.proofs.Calls.{stream-is}
 use Rattle.frames.proofs.Round.stream.Statement.{statement}
 use Rattle.frames.proofs.Round.stream.Tie as tie
 

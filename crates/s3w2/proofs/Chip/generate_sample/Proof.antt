@@ -37,11 +37,8 @@ returns-2 c =
     let a = c .before .before .before .before .before .before .args in
     (goes-called (c .before .before .before .before .refusal-of-sound .result) _ (c .before .before .before .before .refusal-of-sound .ensures) _ _ _ (sym (c .before .before .before .is-done .ensures) ∙ not-false _ (c .before .before .if1 .left)) (c .answers2 .ensures ∙ sample-none (a .self) (a .ram .now) (a .queues .now) (a .ch) (c .before .if2 .taken)), refl)
 
-slice-aggregate-run : tie.Need-slice-aggregate-run
-slice-aggregate-run c = search needs
-
-run-requires : tie.Need-run-requires
-run-requires c κs = search needs
+tick-requires : tie.Need-tick-requires
+tick-requires c κs = search needs
 
 with-core-requires : tie.Need-with-core-requires
 with-core-requires c κs = search needs
@@ -52,10 +49,13 @@ same-length c = search needs
 returns-3 : tie.Need-returns-3
 unfolding generateSampleCalled
 returns-3 c =
-    let a = c .before .before .before .before .before .before .before .before .before .before .before .before .args in
-    let f : SFits w16 (c .before .before .before .before .run .result .sample) = record { sfits = c .before .struct-told .given .1 .0 .1 } in
-    let t = all-there _ _ _ _ (c .before .before .before .before .before .before .before .before .before .before .refusal-of-sound .result) (c .before .before .before .before .before .before .before .before .before .before .refusal-of-sound .ensures) (sym (c .before .before .before .before .before .before .before .before .before .is-done .ensures) ∙ not-false _ (c .before .before .before .before .before .before .before .before .if1 .left)) in
-    (goes-called (c .before .before .before .before .before .before .before .before .before .before .refusal-of-sound .result) _ (c .before .before .before .before .before .before .before .before .before .before .refusal-of-sound .ensures) _ _ _ (sym (c .before .before .before .before .before .before .before .before .before .is-done .ensures) ∙ not-false _ (c .before .before .before .before .before .before .before .before .if1 .left)) (c .with-core .ensures ∙ ap (λ (x : ℤ). answered (withCore (a .self) (c .before .before .before .before .run .result .core)) (Sample x)) (back w16 (c .before .before .before .before .run .result .sample) f) ∙ sample-some (a .self) (a .ram .now) (a .queues .now) (a .ch) (c .before .before .before .before .run .result .core) (c .before .before .before .before .run .result .sample) (c .before .before .before .before .before .before .before .if2 .left) (t .lent) (t .accepted) (c .before .before .before .before .run .ensures .0)), c .before .before .before .before .run .ensures .1 .1 .1)
+    let a = c .before .before .before .before .before .before .before .before .before .before .args in
+    let tick = c .before .before .before .tick in
+    let refusal = c .before .before .before .before .before .before .before .before .refusal-of-sound in
+    let done = sym (c .before .before .before .before .before .before .before .is-done .ensures) ∙ not-false _ (c .before .before .before .before .before .before .if1 .left) in
+    let f : SFits w16 (tick .result .sample) = record { sfits = c .before .struct-told .given .1 .0 .1 } in
+    let t = all-there _ _ _ _ (refusal .result) (refusal .ensures) done in
+    (goes-called (refusal .result) _ (refusal .ensures) _ _ _ done (c .with-core .ensures ∙ ap (λ (x : ℤ). answered (withCore (a .self) (tick .result .core)) (Sample x)) (back w16 (tick .result .sample) f) ∙ sample-some (a .self) (a .ram .now) (a .queues .now) (a .ch) (tick .result .core) (tick .result .sample) (c .before .before .before .before .before .if2 .left) (t .lent) (tick .ensures .0)), tick .ensures .1)
 
 pub generate-sample-spec : {M : Type 1} → statement M
 generate-sample-spec =
@@ -67,8 +67,7 @@ generate-sample-spec =
     returns
     answers-requires-2
     returns-2
-    slice-aggregate-run
-    run-requires
+    tick-requires
     with-core-requires
     same-length
     returns-3)
