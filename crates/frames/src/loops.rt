@@ -37,10 +37,13 @@ fn turns(
     stems: &mut [i16],
 ) -> Turned
     requires { ⌜ (1 ≤ n) × (n ≤ 4) ⌝ ∗ ⌜ length (now queues) ≡ queueBuffer ⌝ ∗ ⌜ acceptsCore core (of .version) (length (now ram)) ≡ true ⌝ }
-    ensures { λ r. ⌜ r ≡ afterTurns (turned (of .version) (now (ram .entry)) (now (queues .entry)) (of .first) n (length (now (stems .entry)) / 2) core) ⌝ }
-    ensures { λ _. ⌜ now (stems .exit) ≡ sets (now (stems .entry)) 0 (turned (of .version) (now (ram .entry)) (now (queues .entry)) (of .first) n (length (now (stems .entry)) / 2) core .stems) ⌝ }
+    ensures result { λ r. ⌜ r ≡ afterTurns
+        (turned (of .version) (now (ram .entry)) (now (queues .entry)) (of .first) n (length (now (stems .entry)) / 2) core) ⌝ }
+    ensures stems { λ _. ⌜ now (stems .exit)
+        ≡ sets (now (stems .entry)) 0
+        (turned (of .version) (now (ram .entry)) (now (queues .entry)) (of .first) n (length (now (stems .entry)) / 2) core .stems) ⌝ }
     ensures { λ r. ⌜ acceptsCore (r .core) (of .version) (length (now (ram .entry))) ≡ true ⌝ }
-    ensures { λ _. ⌜ now (queues .exit) ≡ now (queues .entry) ⌝ }
+    ensures queues { λ _. ⌜ now (queues .exit) ≡ now (queues .entry) ⌝ }
 {
     let mut core = core;
     let mut sides = Sides::silent();
@@ -109,10 +112,14 @@ pub fn run(
     ticks: usize,
     stems: &mut [i16],
 ) -> Turned
-    ensures { λ r. ⌜ r ≡ afterTurns (runOf version (now (ram .entry)) (now (queues .entry)) first ticks (length (now (stems .entry)) / 2) core) ⌝ }
-    ensures { λ _. ⌜ now (stems .exit) ≡ sets (now (stems .entry)) 0 (runOf version (now (ram .entry)) (now (queues .entry)) first ticks (length (now (stems .entry)) / 2) core .stems) ⌝ }
-    ensures { λ r. ⌜ (acceptsCore core version (length (now (ram .entry))) ≡ true → acceptsCore (r .core) version (length (now (ram .entry))) ≡ true) ⌝ }
-    ensures { λ _. ⌜ now (queues .exit) ≡ now (queues .entry) ⌝ }
+    ensures result { λ r. ⌜ r ≡ afterTurns
+        (runOf version (now (ram .entry)) (now (queues .entry)) first ticks (length (now (stems .entry)) / 2) core) ⌝ }
+    ensures stems { λ _. ⌜ now (stems .exit)
+        ≡ sets (now (stems .entry)) 0
+        (runOf version (now (ram .entry)) (now (queues .entry)) first ticks (length (now (stems .entry)) / 2) core .stems) ⌝ }
+    ensures { λ r. ⌜ (acceptsCore core version (length (now (ram .entry))) ≡ true → acceptsCore (r .core) version (length (now (ram .entry)))
+        ≡ true) ⌝ }
+    ensures queues { λ _. ⌜ now (queues .exit) ≡ now (queues .entry) ⌝ }
 {
     if may_run(core, version, ram, &*queues, ticks) {
         let of = Round { version, first };

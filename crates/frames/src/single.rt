@@ -10,8 +10,8 @@ use voices::Core;
 
 // The voice at a channel's number, of which the remainder by 8 counts. A queue buffer of another length gives no tick.
 pub fn tick(core: Core, version: SguVersion, ram: &[u8], queues: &mut [i16], ch: usize) -> Turned
-    ensures { λ r. ⌜ r ≡ afterTurns (singleTick version (now (ram .entry)) (now (queues .entry)) ch core) ⌝ }
-    ensures { λ _. ⌜ now (queues .exit) ≡ now (queues .entry) ⌝ }
+    ensures result { λ r. ⌜ r ≡ afterTurns (singleTick version (now (ram .entry)) (now (queues .entry)) ch core) ⌝ }
+    ensures queues { λ _. ⌜ now (queues .exit) ≡ now (queues .entry) ⌝ }
 {
     if queues.len() != QUEUE_BUFFER {
         return Turned { core, sample: 0 };

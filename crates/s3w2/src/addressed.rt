@@ -9,9 +9,10 @@ use crate::Chip;
 use crate::refusals::is_done;
 
 impl Chip {
+    // Writes a register by its address.
     pub fn write_register(self, queues: &mut [i16], address: u32, value: u8) -> Called
-        ensures { λ r. ⌜ r ≡ writeRegisterCalled self (length (now (queues .entry))) address value ⌝ }
-        ensures { λ _. ⌜ now (queues .exit) ≡ writeRegisterBuffer self (now (queues .entry)) address value ⌝ }
+        ensures called { λ r. ⌜ r ≡ writeRegisterCalled self (length (now (queues .entry))) address value ⌝ }
+        ensures queues { λ _. ⌜ now (queues .exit) ≡ writeRegisterBuffer self (now (queues .entry)) address value ⌝ }
     {
         let refusal = self.refusal_with_queues(queues.len());
         if !is_done(refusal) {
@@ -23,6 +24,7 @@ impl Chip {
         self.with_core(next, Answer::Done)
     }
 
+    // Reads a register by its address; offset 0x0A of a voice clears its phase and stream cache.
     pub fn read_register(self, address: u32) -> Called
         ensures { λ r. ⌜ r ≡ readRegisterCalled self address ⌝ }
     {

@@ -1,7 +1,9 @@
 // One channel written and read. A channel above 7 reads 0 and writes nothing.
 ghost use mathlib.Core.Path.{_≡_};
 ghost use lib.ListN.{length};
-ghost use Rattle.s3w2.specs.Channels.{writeChannelWavetableCalled, readChannelWavetableAnswer, writeChannelControlCalled, writeChannelControlBuffer, readChannelControlCalled, writeChannelPcmRegCalled, readChannelPcmRegAnswer, wavetableLengthAnswer, interpolatesAnswer};
+ghost use Rattle.s3w2.specs.Channels.{writeChannelWavetableCalled, readChannelWavetableAnswer, writeChannelControlCalled};
+ghost use Rattle.s3w2.specs.Channels.{writeChannelControlBuffer, readChannelControlCalled, writeChannelPcmRegCalled};
+ghost use Rattle.s3w2.specs.Channels.{readChannelPcmRegAnswer, wavetableLengthAnswer, interpolatesAnswer};
 use crate::Answer;
 use crate::Called;
 use crate::Chip;
@@ -9,6 +11,7 @@ use crate::refusals::is_done;
 use sizes::LAST_CHANNEL;
 
 impl Chip {
+    // Writes a byte of a channel's wavetable.
     pub fn write_channel_wavetable(self, ch: usize, offset: u8, value: u8) -> Called
         ensures { λ r. ⌜ r ≡ writeChannelWavetableCalled self ch offset value ⌝ }
     {
@@ -24,6 +27,7 @@ impl Chip {
         self.with_core(core.write_wavetable(at, value), Answer::Done)
     }
 
+    // Reads a byte of a channel's wavetable.
     pub fn read_channel_wavetable(self, ch: usize, offset: u8) -> Answer
         ensures { λ r. ⌜ r ≡ readChannelWavetableAnswer self ch offset ⌝ }
     {
@@ -38,6 +42,7 @@ impl Chip {
         Answer::Byte(core.read_wavetable(ch * 256 + (offset as usize)))
     }
 
+    // Writes a control register of a channel.
     pub fn write_channel_control(
         self,
         queues: &mut [i16],
@@ -45,8 +50,8 @@ impl Chip {
         offset: u8,
         value: u8,
     ) -> Called
-        ensures { λ r. ⌜ r ≡ writeChannelControlCalled self (length (now (queues .entry))) ch offset value ⌝ }
-        ensures { λ _. ⌜ now (queues .exit) ≡ writeChannelControlBuffer self (now (queues .entry)) ch offset value ⌝ }
+        ensures called { λ r. ⌜ r ≡ writeChannelControlCalled self (length (now (queues .entry))) ch offset value ⌝ }
+        ensures queues { λ _. ⌜ now (queues .exit) ≡ writeChannelControlBuffer self (now (queues .entry)) ch offset value ⌝ }
     {
         let refusal = self.refusal_with_queues(queues.len());
         if !is_done(refusal) {
@@ -58,6 +63,7 @@ impl Chip {
         self.with_core(next, Answer::Done)
     }
 
+    // Reads a control register of a channel; 0x0A clears its phase and stream cache.
     pub fn read_channel_control(self, ch: usize, offset: u8) -> Called
         ensures { λ r. ⌜ r ≡ readChannelControlCalled self ch offset ⌝ }
     {
@@ -71,6 +77,7 @@ impl Chip {
         self.with_core(core.after_read(ch, offset), Answer::Byte(byte))
     }
 
+    // Writes a PCM register of a channel.
     pub fn write_channel_pcm_reg(self, ch: usize, offset: u8, value: u8) -> Called
         ensures { λ r. ⌜ r ≡ writeChannelPcmRegCalled self ch offset value ⌝ }
     {
@@ -82,6 +89,7 @@ impl Chip {
         self.with_core(core.write_pcm_reg(ch, offset, value), Answer::Done)
     }
 
+    // Reads a PCM register of a channel.
     pub fn read_channel_pcm_reg(self, ch: usize, offset: u8) -> Answer
         ensures { λ r. ⌜ r ≡ readChannelPcmRegAnswer self ch offset ⌝ }
     {
@@ -106,6 +114,7 @@ impl Chip {
         Answer::Count(core.wavetable_length(version, ch))
     }
 
+    // Whether a channel blends neighbouring samples.
     pub fn interpolates(self, ch: usize) -> Answer
         ensures { λ r. ⌜ r ≡ interpolatesAnswer self ch ⌝ }
     {

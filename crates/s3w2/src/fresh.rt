@@ -42,8 +42,8 @@ impl Chip {
 
     // A fresh chip; its RAM is zeroed.
     pub fn with_version(ram: &mut [u8], version: SguVersion) -> Called
-        ensures { λ r. ⌜ r ≡ madeCalled (length (now (ram .entry))) version ⌝ }
-        ensures { λ _. ⌜ now (ram .exit) ≡ madeRam (now (ram .entry)) ⌝ }
+        ensures called { λ r. ⌜ r ≡ madeCalled (length (now (ram .entry))) version ⌝ }
+        ensures ram { λ _. ⌜ now (ram .exit) ≡ madeRam (now (ram .entry)) ⌝ }
     {
         let chip = Chip {
             version,
@@ -56,20 +56,23 @@ impl Chip {
         chip.answers(Answer::Done)
     }
 
+    // A fresh V3.1 chip over a lent RAM.
     pub fn with_pcm_ram(ram: &mut [u8]) -> Called
-        ensures { λ r. ⌜ r ≡ madeCalled (length (now (ram .entry))) «V3_1» ⌝ }
-        ensures { λ _. ⌜ now (ram .exit) ≡ madeRam (now (ram .entry)) ⌝ }
+        ensures called { λ r. ⌜ r ≡ madeCalled (length (now (ram .entry))) «V3_1» ⌝ }
+        ensures ram { λ _. ⌜ now (ram .exit) ≡ madeRam (now (ram .entry)) ⌝ }
     {
         Chip::with_version(ram, SguVersion::V3_1)
     }
 
+    // A fresh V3.1 chip.
     pub fn new(ram: &mut [u8]) -> Called
-        ensures { λ r. ⌜ r ≡ madeCalled (length (now (ram .entry))) «V3_1» ⌝ }
-        ensures { λ _. ⌜ now (ram .exit) ≡ madeRam (now (ram .entry)) ⌝ }
+        ensures called { λ r. ⌜ r ≡ madeCalled (length (now (ram .entry))) «V3_1» ⌝ }
+        ensures ram { λ _. ⌜ now (ram .exit) ≡ madeRam (now (ram .entry)) ⌝ }
     {
         Chip::with_pcm_ram(ram)
     }
 
+    // The chip under another version: caches and queues are empty.
     pub fn set_version(self, version: SguVersion) -> Called
         ensures { λ r. ⌜ r ≡ setVersionCalled self version ⌝ }
     {
@@ -85,9 +88,10 @@ impl Chip {
         chip.answers(Answer::Done)
     }
 
+    // A fresh chip of the same version; the RAM is zeroed.
     pub fn reset(self, ram: &mut [u8]) -> Called
-        ensures { λ r. ⌜ r ≡ resetCalled self (length (now (ram .entry))) ⌝ }
-        ensures { λ _. ⌜ now (ram .exit) ≡ resetRam self (now (ram .entry)) ⌝ }
+        ensures called { λ r. ⌜ r ≡ resetCalled self (length (now (ram .entry))) ⌝ }
+        ensures ram { λ _. ⌜ now (ram .exit) ≡ resetRam self (now (ram .entry)) ⌝ }
     {
         let refusal = self.refusal_with_ram(ram.len());
         if !is_done(refusal) {

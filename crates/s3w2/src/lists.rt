@@ -12,7 +12,9 @@ use crate::Chip;
 use crate::refusals::is_done;
 
 fn store_bytes(ram: &mut [u8], addresses: &[u32], values: &[u8])
-    ensures { λ _. ⌜ now (ram .exit) ≡ bytesStored (min (length (now (addresses .entry))) (length (now (values .entry)))) (now (addresses .entry)) (now (values .entry)) (now (ram .entry)) ⌝ }
+    ensures { λ _. ⌜ now (ram .exit)
+        ≡ bytesStored (min (length (now (addresses .entry))) (length (now (values .entry)))) (now (addresses .entry)) (now (values .entry))
+        (now (ram .entry)) ⌝ }
 {
     for i in 0..num::least(addresses.len(), values.len()) {
         let at = addresses[i] as usize;
@@ -23,9 +25,14 @@ fn store_bytes(ram: &mut [u8], addresses: &[u32], values: &[u8])
 }
 
 impl Chip {
+    // Registers written one after the other.
     pub fn write_registers(self, queues: &mut [i16], addresses: &[u32], values: &[u8]) -> Called
-        ensures { λ r. ⌜ r ≡ answered (registersWritten (min (length (now (addresses .entry))) (length (now (values .entry)))) (now (addresses .entry)) (now (values .entry)) (fed self (now (queues .entry))) .chip) (queuesRefusal self (length (now (queues .entry)))) ⌝ }
-        ensures { λ _. ⌜ now (queues .exit) ≡ registersWritten (min (length (now (addresses .entry))) (length (now (values .entry)))) (now (addresses .entry)) (now (values .entry)) (fed self (now (queues .entry))) .queues ⌝ }
+        ensures called { λ r. ⌜ r ≡ answered
+            (registersWritten (min (length (now (addresses .entry))) (length (now (values .entry)))) (now (addresses .entry))
+            (now (values .entry)) (fed self (now (queues .entry))) .chip) (queuesRefusal self (length (now (queues .entry)))) ⌝ }
+        ensures queues { λ _. ⌜ now (queues .exit)
+            ≡ registersWritten (min (length (now (addresses .entry))) (length (now (values .entry)))) (now (addresses .entry))
+            (now (values .entry)) (fed self (now (queues .entry))) .queues ⌝ }
     {
         let refusal = self.refusal_with_queues(queues.len());
         if !is_done(refusal) {
@@ -37,9 +44,14 @@ impl Chip {
         self.with_core(next, Answer::Done)
     }
 
+    // Bytes of the RAM written one after the other.
     pub fn write_pcm_ram_bytes(self, ram: &mut [u8], addresses: &[u32], values: &[u8]) -> Called
-        ensures { λ r. ⌜ r ≡ answered (bytesWritten (min (length (now (addresses .entry))) (length (now (values .entry)))) (now (addresses .entry)) (now (values .entry)) (filled self (now (ram .entry))) .chip) (ramRefusal self (length (now (ram .entry)))) ⌝ }
-        ensures { λ _. ⌜ now (ram .exit) ≡ bytesWritten (min (length (now (addresses .entry))) (length (now (values .entry)))) (now (addresses .entry)) (now (values .entry)) (filled self (now (ram .entry))) .ram ⌝ }
+        ensures called { λ r. ⌜ r ≡ answered
+            (bytesWritten (min (length (now (addresses .entry))) (length (now (values .entry)))) (now (addresses .entry)) (now (values .entry))
+            (filled self (now (ram .entry))) .chip) (ramRefusal self (length (now (ram .entry)))) ⌝ }
+        ensures ram { λ _. ⌜ now (ram .exit)
+            ≡ bytesWritten (min (length (now (addresses .entry))) (length (now (values .entry)))) (now (addresses .entry)) (now (values .entry))
+            (filled self (now (ram .entry))) .ram ⌝ }
     {
         let length = ram.len();
         let refusal = self.refusal_with_ram(length);

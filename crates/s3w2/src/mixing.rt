@@ -37,11 +37,17 @@ fn add_frames(
     right: &mut [i16],
     first: usize,
 ) -> Core
-    ensures { λ r. ⌜ r ≡ runOf version (now (ram .entry)) (now (queues .entry)) 0 4 (length (now (stems .entry)) / 2) core .core ⌝ }
-    ensures { λ _. ⌜ now (left .exit) ≡ heardOn saturating 0 (now (stems .entry)) (runOf version (now (ram .entry)) (now (queues .entry)) 0 4 (length (now (stems .entry)) / 2) core) (now (left .entry)) (length (now (left .entry))) (length (now (right .entry))) first ⌝ }
-    ensures { λ _. ⌜ now (right .exit) ≡ heardOn saturating 1 (now (stems .entry)) (runOf version (now (ram .entry)) (now (queues .entry)) 0 4 (length (now (stems .entry)) / 2) core) (now (right .entry)) (length (now (left .entry))) (length (now (right .entry))) first ⌝ }
+    ensures result { λ r. ⌜ r ≡ runOf version (now (ram .entry)) (now (queues .entry)) 0 4 (length (now (stems .entry)) / 2) core .core ⌝ }
+    ensures left { λ _. ⌜ now (left .exit)
+        ≡ heardOn saturating 0 (now (stems .entry))
+        (runOf version (now (ram .entry)) (now (queues .entry)) 0 4 (length (now (stems .entry)) / 2) core) (now (left .entry))
+        (length (now (left .entry))) (length (now (right .entry))) first ⌝ }
+    ensures right { λ _. ⌜ now (right .exit)
+        ≡ heardOn saturating 1 (now (stems .entry))
+        (runOf version (now (ram .entry)) (now (queues .entry)) 0 4 (length (now (stems .entry)) / 2) core) (now (right .entry))
+        (length (now (left .entry))) (length (now (right .entry))) first ⌝ }
     ensures { λ r. ⌜ (acceptsCore core version (length (now (ram .entry))) ≡ true → acceptsCore r version (length (now (ram .entry))) ≡ true) ⌝ }
-    ensures { λ _. ⌜ now (queues .exit) ≡ now (queues .entry) ⌝ }
+    ensures queues { λ _. ⌜ now (queues .exit) ≡ now (queues .entry) ⌝ }
 {
     let next = frames::run(core, version, ram, queues, 0, 4, &mut *stems);
     sides::add(&*stems, left, right, first);
@@ -58,11 +64,17 @@ fn add_frames_i32(
     right: &mut [i32],
     first: usize,
 ) -> Core
-    ensures { λ r. ⌜ r ≡ runOf version (now (ram .entry)) (now (queues .entry)) 0 4 (length (now (stems .entry)) / 2) core .core ⌝ }
-    ensures { λ _. ⌜ now (left .exit) ≡ heardOn wrapping 0 (now (stems .entry)) (runOf version (now (ram .entry)) (now (queues .entry)) 0 4 (length (now (stems .entry)) / 2) core) (now (left .entry)) (length (now (left .entry))) (length (now (right .entry))) first ⌝ }
-    ensures { λ _. ⌜ now (right .exit) ≡ heardOn wrapping 1 (now (stems .entry)) (runOf version (now (ram .entry)) (now (queues .entry)) 0 4 (length (now (stems .entry)) / 2) core) (now (right .entry)) (length (now (left .entry))) (length (now (right .entry))) first ⌝ }
+    ensures result { λ r. ⌜ r ≡ runOf version (now (ram .entry)) (now (queues .entry)) 0 4 (length (now (stems .entry)) / 2) core .core ⌝ }
+    ensures left { λ _. ⌜ now (left .exit)
+        ≡ heardOn wrapping 0 (now (stems .entry))
+        (runOf version (now (ram .entry)) (now (queues .entry)) 0 4 (length (now (stems .entry)) / 2) core) (now (left .entry))
+        (length (now (left .entry))) (length (now (right .entry))) first ⌝ }
+    ensures right { λ _. ⌜ now (right .exit)
+        ≡ heardOn wrapping 1 (now (stems .entry))
+        (runOf version (now (ram .entry)) (now (queues .entry)) 0 4 (length (now (stems .entry)) / 2) core) (now (right .entry))
+        (length (now (left .entry))) (length (now (right .entry))) first ⌝ }
     ensures { λ r. ⌜ (acceptsCore core version (length (now (ram .entry))) ≡ true → acceptsCore r version (length (now (ram .entry))) ≡ true) ⌝ }
-    ensures { λ _. ⌜ now (queues .exit) ≡ now (queues .entry) ⌝ }
+    ensures queues { λ _. ⌜ now (queues .exit) ≡ now (queues .entry) ⌝ }
 {
     let next = frames::run(core, version, ram, queues, 0, 4, &mut *stems);
     sides::add_i32(&*stems, left, right, first);
@@ -78,10 +90,12 @@ impl Chip {
         left: &mut [i16],
         right: &mut [i16],
     ) -> Called
-        ensures { λ r. ⌜ r ≡ clockMixedCalled self (now (ram .entry)) (now (queues .entry)) (now (left .entry)) (now (right .entry)) ⌝ }
-        ensures { λ _. ⌜ now (queues .exit) ≡ now (queues .entry) ⌝ }
-        ensures { λ _. ⌜ now (left .exit) ≡ clockMixedLeft self (now (ram .entry)) (now (queues .entry)) (now (left .entry)) (now (right .entry)) ⌝ }
-        ensures { λ _. ⌜ now (right .exit) ≡ clockMixedRight self (now (ram .entry)) (now (queues .entry)) (now (left .entry)) (now (right .entry)) ⌝ }
+        ensures called { λ r. ⌜ r ≡ clockMixedCalled self (now (ram .entry)) (now (queues .entry)) (now (left .entry)) (now (right .entry)) ⌝ }
+        ensures queues { λ _. ⌜ now (queues .exit) ≡ now (queues .entry) ⌝ }
+        ensures left { λ _. ⌜ now (left .exit)
+            ≡ clockMixedLeft self (now (ram .entry)) (now (queues .entry)) (now (left .entry)) (now (right .entry)) ⌝ }
+        ensures right { λ _. ⌜ now (right .exit)
+            ≡ clockMixedRight self (now (ram .entry)) (now (queues .entry)) (now (left .entry)) (now (right .entry)) ⌝ }
     {
         let refusal = self.refusal_of_sound(ram.len(), queues.len());
         if !is_done(refusal) {
@@ -101,10 +115,12 @@ impl Chip {
         left: &mut [i16],
         right: &mut [i16],
     ) -> Called
-        ensures { λ r. ⌜ r ≡ mixedCalled saturating self (now (ram .entry)) (now (queues .entry)) (now (left .entry)) (now (right .entry)) ⌝ }
-        ensures { λ _. ⌜ now (queues .exit) ≡ now (queues .entry) ⌝ }
-        ensures { λ _. ⌜ now (left .exit) ≡ mixedLeft saturating self (now (ram .entry)) (now (queues .entry)) (now (left .entry)) (now (right .entry)) ⌝ }
-        ensures { λ _. ⌜ now (right .exit) ≡ mixedRight saturating self (now (ram .entry)) (now (queues .entry)) (now (left .entry)) (now (right .entry)) ⌝ }
+        ensures called { λ r. ⌜ r ≡ mixedCalled saturating self (now (ram .entry)) (now (queues .entry)) (now (left .entry)) (now (right .entry)) ⌝ }
+        ensures queues { λ _. ⌜ now (queues .exit) ≡ now (queues .entry) ⌝ }
+        ensures left { λ _. ⌜ now (left .exit)
+            ≡ mixedLeft saturating self (now (ram .entry)) (now (queues .entry)) (now (left .entry)) (now (right .entry)) ⌝ }
+        ensures right { λ _. ⌜ now (right .exit)
+            ≡ mixedRight saturating self (now (ram .entry)) (now (queues .entry)) (now (left .entry)) (now (right .entry)) ⌝ }
     {
         let refusal = self.refusal_of_sound(ram.len(), queues.len());
         if !is_done(refusal) {
@@ -142,10 +158,12 @@ impl Chip {
         left: &mut [i32],
         right: &mut [i32],
     ) -> Called
-        ensures { λ r. ⌜ r ≡ mixedCalled wrapping self (now (ram .entry)) (now (queues .entry)) (now (left .entry)) (now (right .entry)) ⌝ }
-        ensures { λ _. ⌜ now (queues .exit) ≡ now (queues .entry) ⌝ }
-        ensures { λ _. ⌜ now (left .exit) ≡ mixedLeft wrapping self (now (ram .entry)) (now (queues .entry)) (now (left .entry)) (now (right .entry)) ⌝ }
-        ensures { λ _. ⌜ now (right .exit) ≡ mixedRight wrapping self (now (ram .entry)) (now (queues .entry)) (now (left .entry)) (now (right .entry)) ⌝ }
+        ensures called { λ r. ⌜ r ≡ mixedCalled wrapping self (now (ram .entry)) (now (queues .entry)) (now (left .entry)) (now (right .entry)) ⌝ }
+        ensures queues { λ _. ⌜ now (queues .exit) ≡ now (queues .entry) ⌝ }
+        ensures left { λ _. ⌜ now (left .exit)
+            ≡ mixedLeft wrapping self (now (ram .entry)) (now (queues .entry)) (now (left .entry)) (now (right .entry)) ⌝ }
+        ensures right { λ _. ⌜ now (right .exit)
+            ≡ mixedRight wrapping self (now (ram .entry)) (now (queues .entry)) (now (left .entry)) (now (right .entry)) ⌝ }
     {
         let refusal = self.refusal_of_sound(ram.len(), queues.len());
         if !is_done(refusal) {

@@ -10,8 +10,8 @@ use crate::refusals::is_done;
 impl Chip {
     // A stream that has the byte begins anew.
     pub fn write_pcm_ram(self, ram: &mut [u8], address: u32, value: u8) -> Called
-        ensures { λ r. ⌜ r ≡ writePcmRamCalled self (length (now (ram .entry))) address ⌝ }
-        ensures { λ _. ⌜ now (ram .exit) ≡ writePcmRamRam self (now (ram .entry)) address value ⌝ }
+        ensures called { λ r. ⌜ r ≡ writePcmRamCalled self (length (now (ram .entry))) address ⌝ }
+        ensures ram { λ _. ⌜ now (ram .exit) ≡ writePcmRamRam self (now (ram .entry)) address value ⌝ }
     {
         let refusal = self.refusal_with_ram(ram.len());
         if !is_done(refusal) {
@@ -26,6 +26,7 @@ impl Chip {
         self.with_core(core.after_ram_write(address), Answer::Done)
     }
 
+    // Reads a byte of the RAM.
     pub fn read_pcm_ram(self, ram: &[u8], address: u32) -> Answer
         ensures { λ r. ⌜ r ≡ readPcmRamAnswer self (now (ram .entry)) address ⌝ }
     {

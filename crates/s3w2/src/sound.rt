@@ -11,8 +11,8 @@ use sizes::LAST_CHANNEL;
 impl Chip {
     // A tick of one voice; a channel above 7 gives 0.
     pub fn generate_sample(self, ram: &[u8], queues: &mut [i16], ch: usize) -> Called
-        ensures { λ r. ⌜ r ≡ generateSampleCalled self (now (ram .entry)) (now (queues .entry)) ch ⌝ }
-        ensures { λ _. ⌜ now (queues .exit) ≡ now (queues .entry) ⌝ }
+        ensures called { λ r. ⌜ r ≡ generateSampleCalled self (now (ram .entry)) (now (queues .entry)) ch ⌝ }
+        ensures queues { λ _. ⌜ now (queues .exit) ≡ now (queues .entry) ⌝ }
     {
         let refusal = self.refusal_of_sound(ram.len(), queues.len());
         if !is_done(refusal) {
@@ -28,9 +28,9 @@ impl Chip {
 
     // Stems: 16 a frame, channel 0 left, channel 0 right, channel 1 left and so on.
     pub fn clock(self, ram: &[u8], queues: &mut [i16], frames: usize, stems: &mut [i16]) -> Called
-        ensures { λ r. ⌜ r ≡ clockCalled self (now (ram .entry)) (now (queues .entry)) frames (length (now (stems .entry))) ⌝ }
-        ensures { λ _. ⌜ now (queues .exit) ≡ now (queues .entry) ⌝ }
-        ensures { λ _. ⌜ now (stems .exit) ≡ clockStems self (now (ram .entry)) (now (queues .entry)) frames (now (stems .entry)) ⌝ }
+        ensures called { λ r. ⌜ r ≡ clockCalled self (now (ram .entry)) (now (queues .entry)) frames (length (now (stems .entry))) ⌝ }
+        ensures queues { λ _. ⌜ now (queues .exit) ≡ now (queues .entry) ⌝ }
+        ensures stems { λ _. ⌜ now (stems .exit) ≡ clockStems self (now (ram .entry)) (now (queues .entry)) frames (now (stems .entry)) ⌝ }
     {
         let refusal = self.refusal_of_clock(ram.len(), queues.len(), frames, stems.len());
         if !is_done(refusal) {

@@ -29,6 +29,7 @@ impl Channel {
         true
     }
 
+    // Whether the channel is in an accepted state.
     pub fn accepts(self, version: SguVersion, length: usize) -> bool
         ensures { λ r. ⌜ r ≡ acceptsChannel self version length ⌝ }
     {

@@ -39,6 +39,7 @@ impl Channel {
         self.reset_fifo().invalidate_sqv4()
     }
 
+    // The channel with an empty queue.
     pub fn reset_fifo(mut self) -> Channel
         ensures { λ r. ⌜ r ≡ setFifo self defaultFifo ⌝ }
     {
@@ -47,6 +48,7 @@ impl Channel {
         self
     }
 
+    // The channel with an empty stream cache.
     pub fn invalidate_sqv4(mut self) -> Channel
         ensures { λ r. ⌜ r ≡ setStream self emptied ⌝ }
     {

@@ -4,7 +4,8 @@ ghost use Prim.Native.Nat.{_<_};
 ghost use Rattle.registers.specs.Control.{targetChannel};
 ghost use Rattle.ticks.specs.Oscillators.{targetFrom};
 ghost use Rattle.ticks.specs.Settings.{settingOf};
-ghost use Rattle.voice.specs.Sounding.{playOf, kindOf, silentSound, afterSound, queueSoundOf, afterQueue, servedOf, windowAt, afterServed, streamSoundOf, afterStream};
+ghost use Rattle.voice.specs.Sounding.{playOf, kindOf, silentSound, afterSound, queueSoundOf, afterQueue, servedOf, windowAt};
+ghost use Rattle.voice.specs.Sounding.{afterServed, streamSoundOf, afterStream};
 ghost use Rattle.voice.specs.Kinds.{soundingOf};
 use crate::Channel;
 use crate::Kind;
@@ -36,6 +37,7 @@ fn sounding(w: WaveformType) -> Kind
 }
 
 impl Channel {
+    // How the channel sounds.
     pub fn kind(self) -> Kind
         ensures { λ r. ⌜ r ≡ kindOf self ⌝ }
     {
@@ -48,6 +50,7 @@ impl Channel {
         Kind::Silent
     }
 
+    // What its ticks take from its registers.
     pub fn setting(self, version: SguVersion) -> Setting
         ensures { λ r. ⌜ r ≡ settingOf (self .registers) (self .pcm .«sample_control») version ⌝ }
     {
@@ -84,6 +87,7 @@ impl Channel {
         }
     }
 
+    // The channel after an oscillator's ticks.
     pub fn after_sound(mut self, v: Sound) -> Channel
         ensures { λ r. ⌜ r ≡ afterSound self v ⌝ }
     {
@@ -92,6 +96,7 @@ impl Channel {
         self
     }
 
+    // Its queue, with silent sides, as its ticks begin.
     pub fn queue_sound(self) -> QueueSound
         ensures { λ r. ⌜ r ≡ queueSoundOf self ⌝ }
     {
@@ -102,6 +107,7 @@ impl Channel {
         }
     }
 
+    // The channel after a queue's ticks.
     pub fn after_queue(mut self, v: QueueSound) -> Channel
         ensures { λ r. ⌜ r ≡ afterQueue self v ⌝ }
     {
@@ -113,6 +119,7 @@ impl Channel {
         self
     }
 
+    // What a stream's tick takes from its registers.
     pub fn play(self, version: SguVersion) -> Play
         ensures { λ r. ⌜ r ≡ playOf self version ⌝ }
     {
@@ -151,6 +158,7 @@ impl Channel {
         }
     }
 
+    // The channel after ticks that the cache served.
     pub fn after_served(mut self, r: Served) -> Channel
         ensures { λ v. ⌜ v ≡ afterServed self r ⌝ }
     {

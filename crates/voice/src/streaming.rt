@@ -20,6 +20,7 @@ impl StreamSound {
         self
     }
 
+    // Some ticks of a stream voice.
     pub fn run(
         self,
         n: usize,
@@ -28,7 +29,8 @@ impl StreamSound {
         ram: &[u8],
         p: Play,
     ) -> StreamSound
-        ensures { λ r. ⌜ lent r (now (samples .exit)) ≡ streamTicks n (now (ram .entry)) p (g .volume) (g .panpot) (lent self (now (samples .entry))) ⌝ }
+        ensures { λ r. ⌜ lent r (now (samples .exit))
+            ≡ streamTicks n (now (ram .entry)) p (g .volume) (g .panpot) (lent self (now (samples .entry))) ⌝ }
     {
         let mut v = self;
         for k in 0..n {
@@ -47,7 +49,8 @@ impl StreamSound {
         ram: &[u8],
         p: Play,
     ) -> StreamSound
-        ensures { λ r. ⌜ lent r (now (samples .exit)) ≡ streamTicksAt base n (now (ram .entry)) p (g .volume) (g .panpot) (lent self (now (samples .entry))) ⌝ }
+        ensures { λ r. ⌜ lent r (now (samples .exit))
+            ≡ streamTicksAt base n (now (ram .entry)) p (g .volume) (g .panpot) (lent self (now (samples .entry))) ⌝ }
     {
         if samples.len() < 128 {
             return self;

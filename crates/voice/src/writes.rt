@@ -2,7 +2,8 @@
 ghost use mathlib.Core.Path.{_≡_};
 ghost use lib.Dec.{leb};
 ghost use Rattle.voice.specs.Kinds.{sampleOf};
-ghost use Rattle.voice.specs.Writes.{emptiesCache, waveformWritten, restarted, latchWritten, sampleWritten, sampleEntries, sampleControlWritten, writeControl, writeControlEntries, writePcmReg};
+ghost use Rattle.voice.specs.Writes.{emptiesCache, waveformWritten, restarted, latchWritten, sampleWritten, sampleEntries};
+ghost use Rattle.voice.specs.Writes.{sampleControlWritten, writeControl, writeControlEntries, writePcmReg};
 use crate::Channel;
 use registers::WaveformType;
 use version::SguVersion;
@@ -71,6 +72,7 @@ impl Channel {
         self
     }
 
+    // A control register written; its own queue entries are lent.
     pub fn write_control(
         mut self,
         version: SguVersion,
@@ -78,7 +80,8 @@ impl Channel {
         offset: u8,
         value: u8,
     ) -> Channel
-        ensures { λ r. ⌜ (r ≡ writeControl version self offset value) × (now (queue .exit) ≡ writeControlEntries version self (now (queue .entry)) offset value) ⌝ }
+        ensures { λ r. ⌜ (r ≡ writeControl version self offset value)
+            × (now (queue .exit) ≡ writeControlEntries version self (now (queue .entry)) offset value) ⌝ }
     {
         match offset {
             2 => self.write_waveform(version, value),
@@ -102,6 +105,7 @@ impl Channel {
         offset <= 9
     }
 
+    // Whether a write to this offset empties the stream cache.
     pub fn control_write_invalidates(offset: u8) -> bool
         ensures { λ r. ⌜ r ≡ emptiesCache offset ⌝ }
     {
@@ -111,6 +115,7 @@ impl Channel {
         offset == 0x0A
     }
 
+    // A PCM register written.
     pub fn write_pcm_reg(mut self, offset: u8, value: u8) -> Channel
         ensures { λ r. ⌜ r ≡ writePcmReg self offset value ⌝ }
     {

@@ -19,6 +19,7 @@ fn accepts_each(channels: [Channel; 8], version: SguVersion, length: usize) -> b
 }
 
 impl Core {
+    // Whether all eight channels are in accepted states.
     pub fn accepts(self, version: SguVersion, length: usize) -> bool
         ensures { λ r. ⌜ r ≡ acceptsCore self version length ⌝ }
     {

@@ -55,8 +55,11 @@ impl Core {
         values: &[u8],
     ) -> Core
         requires { ⌜ length (now queues) ≡ queueBuffer ⌝ }
-        ensures { λ r. ⌜ r ≡ registersWritten version (min (length (now (addresses .entry))) (length (now (values .entry)))) (now (addresses .entry)) (now (values .entry)) (fedCore self (now (queues .entry))) .core ⌝ }
-        ensures { λ _. ⌜ now (queues .exit) ≡ registersWritten version (min (length (now (addresses .entry))) (length (now (values .entry)))) (now (addresses .entry)) (now (values .entry)) (fedCore self (now (queues .entry))) .queues ⌝ }
+        ensures result { λ r. ⌜ r ≡ registersWritten version (min (length (now (addresses .entry))) (length (now (values .entry))))
+            (now (addresses .entry)) (now (values .entry)) (fedCore self (now (queues .entry))) .core ⌝ }
+        ensures queues { λ _. ⌜ now (queues .exit)
+            ≡ registersWritten version (min (length (now (addresses .entry))) (length (now (values .entry)))) (now (addresses .entry))
+            (now (values .entry)) (fedCore self (now (queues .entry))) .queues ⌝ }
     {
         let mut core = self;
         for i in 0..num::least(addresses.len(), values.len()) {
@@ -88,8 +91,13 @@ impl Core {
         addresses: &[u32],
         values: &[u8],
     ) -> Core
-        ensures { λ r. ⌜ r ≡ withQueues (now (queues .entry)) (registersWritten version (min (length (now (addresses .entry))) (length (now (values .entry)))) (now (addresses .entry)) (now (values .entry)) (fedCore self (now (queues .entry))) .core) self ⌝ }
-        ensures { λ _. ⌜ now (queues .exit) ≡ withQueues (now (queues .entry)) (registersWritten version (min (length (now (addresses .entry))) (length (now (values .entry)))) (now (addresses .entry)) (now (values .entry)) (fedCore self (now (queues .entry))) .queues) (now (queues .entry)) ⌝ }
+        ensures result { λ r. ⌜ r ≡ withQueues (now (queues .entry))
+            (registersWritten version (min (length (now (addresses .entry))) (length (now (values .entry)))) (now (addresses .entry))
+            (now (values .entry)) (fedCore self (now (queues .entry))) .core) self ⌝ }
+        ensures queues { λ _. ⌜ now (queues .exit)
+            ≡ withQueues (now (queues .entry))
+            (registersWritten version (min (length (now (addresses .entry))) (length (now (values .entry)))) (now (addresses .entry))
+            (now (values .entry)) (fedCore self (now (queues .entry))) .queues) (now (queues .entry)) ⌝ }
     {
         if queues.len() != QUEUE_BUFFER {
             return self;

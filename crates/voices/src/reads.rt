@@ -1,6 +1,7 @@
 // Reads at the registers' addresses.
 ghost use mathlib.Core.Path.{_≡_};
-ghost use Rattle.voices.specs.Reads.{readChannelControl, readChannelPcmReg, afterReadChannel, readWavetable, peekRegister, afterReadRegister, wavetableLength, interpolatesAt};
+ghost use Rattle.voices.specs.Reads.{readChannelControl, readChannelPcmReg, afterReadChannel, readWavetable, peekRegister};
+ghost use Rattle.voices.specs.Reads.{afterReadRegister, wavetableLength, interpolatesAt};
 use crate::Core;
 use crate::addresses::channel_of;
 use crate::addresses::offset_of;
@@ -20,6 +21,7 @@ impl Core {
         0
     }
 
+    // A PCM register of a channel.
     pub fn read_pcm_reg(self, ch: usize, offset: u8) -> u8
         ensures { λ r. ⌜ r ≡ readChannelPcmReg self ch offset ⌝ }
     {
@@ -31,6 +33,7 @@ impl Core {
         0
     }
 
+    // A byte of the wavetables.
     pub fn read_wavetable(self, at: usize) -> u8
         ensures { λ r. ⌜ r ≡ readWavetable self at ⌝ }
     {
@@ -40,6 +43,7 @@ impl Core {
         0
     }
 
+    // The channels after a control register was read.
     pub fn after_read(self, ch: usize, offset: u8) -> Core
         ensures { λ r. ⌜ r ≡ afterReadChannel self ch offset ⌝ }
     {
@@ -51,6 +55,7 @@ impl Core {
         self
     }
 
+    // What a register reads, by its address.
     pub fn peek_register(self, version: SguVersion, address: u32) -> u8
         ensures { λ r. ⌜ r ≡ peekRegister version self address ⌝ }
     {
@@ -65,6 +70,7 @@ impl Core {
         0
     }
 
+    // The channels after a register was read, by its address.
     pub fn after_read_register(self, address: u32) -> Core
         ensures { λ r. ⌜ r ≡ afterReadRegister self address ⌝ }
     {
@@ -94,6 +100,7 @@ impl Core {
         256
     }
 
+    // Whether a channel blends neighbouring samples.
     pub fn interpolates(self, version: SguVersion, ch: usize) -> bool
         ensures { λ r. ⌜ r ≡ interpolatesAt version self ch ⌝ }
     {

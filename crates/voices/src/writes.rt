@@ -3,7 +3,9 @@ ghost use mathlib.Core.Path.{_≡_};
 ghost use Prim.Native.Nat.{_<_};
 ghost use lib.ListN.{length};
 ghost use Rattle.sizes.specs.Sizes.{numChannels, queueBuffer};
-ghost use Rattle.voices.specs.Writes.{withQueues, writeChannelControl, writeChannelControlQueues, writeChannelPcmReg, writeWavetable, writeBlock, writeBlockQueues, writeRegister, writeRegisterQueues, afterRamWrite};
+ghost use Rattle.voices.specs.Writes.{withQueues, writeChannelControl, writeChannelControlQueues, writeChannelPcmReg};
+ghost use Rattle.voices.specs.Writes.{writeWavetable, writeBlock, writeBlockQueues, writeRegister, writeRegisterQueues};
+ghost use Rattle.voices.specs.Writes.{afterRamWrite};
 use crate::Core;
 use crate::addresses::channel_of;
 use crate::addresses::offset_of;
@@ -27,7 +29,8 @@ impl Core {
         value: u8,
     ) -> Core
         requires { ⌜ (ch < numChannels) × (length (now queues) ≡ queueBuffer) ⌝ }
-        ensures { λ r. ⌜ (r ≡ writeChannelControl version self ch offset value) × (now (queues .exit) ≡ writeChannelControlQueues version self (now (queues .entry)) ch offset value) ⌝ }
+        ensures { λ r. ⌜ (r ≡ writeChannelControl version self ch offset value)
+            × (now (queues .exit) ≡ writeChannelControlQueues version self (now (queues .entry)) ch offset value) ⌝ }
     {
         let c = self.channels[ch];
         let from = ch * FIFO_CAPACITY;
@@ -36,6 +39,7 @@ impl Core {
         self.stored(ch, d, Channel::control_write_invalidates(offset))
     }
 
+    // A control register of a channel written.
     pub fn write_control(
         self,
         version: SguVersion,
@@ -44,8 +48,10 @@ impl Core {
         offset: u8,
         value: u8,
     ) -> Core
-        ensures { λ r. ⌜ r ≡ withQueues (now (queues .entry)) (writeChannelControl version self ch offset value) self ⌝ }
-        ensures { λ _. ⌜ now (queues .exit) ≡ withQueues (now (queues .entry)) (writeChannelControlQueues version self (now (queues .entry)) ch offset value) (now (queues .entry)) ⌝ }
+        ensures result { λ r. ⌜ r ≡ withQueues (now (queues .entry)) (writeChannelControl version self ch offset value) self ⌝ }
+        ensures queues { λ _. ⌜ now (queues .exit)
+            ≡ withQueues (now (queues .entry)) (writeChannelControlQueues version self (now (queues .entry)) ch offset value)
+            (now (queues .entry)) ⌝ }
     {
         if queues.len() != QUEUE_BUFFER {
             return self;
@@ -56,6 +62,7 @@ impl Core {
         self
     }
 
+    // A PCM register of a channel written.
     pub fn write_pcm_reg(self, ch: usize, offset: u8, value: u8) -> Core
         ensures { λ r. ⌜ r ≡ writeChannelPcmReg self ch offset value ⌝ }
     {
@@ -67,6 +74,7 @@ impl Core {
         self
     }
 
+    // A byte of the wavetables written.
     pub fn write_wavetable(mut self, at: usize, value: u8) -> Core
         ensures { λ r. ⌜ r ≡ writeWavetable self at value ⌝ }
     {
@@ -85,7 +93,8 @@ impl Core {
         value: u8,
     ) -> Core
         requires { ⌜ (ch < numChannels) × (length (now queues) ≡ queueBuffer) ⌝ }
-        ensures { λ r. ⌜ (r ≡ writeBlock version self ch offset value) × (now (queues .exit) ≡ writeBlockQueues version self (now (queues .entry)) ch offset value) ⌝ }
+        ensures { λ r. ⌜ (r ≡ writeBlock version self ch offset value)
+            × (now (queues .exit) ≡ writeBlockQueues version self (now (queues .entry)) ch offset value) ⌝ }
     {
         let c = self.channels[ch];
         let from = ch * FIFO_CAPACITY;
@@ -102,8 +111,9 @@ impl Core {
         address: u32,
         value: u8,
     ) -> Core
-        ensures { λ r. ⌜ r ≡ withQueues (now (queues .entry)) (writeRegister version self address value) self ⌝ }
-        ensures { λ _. ⌜ now (queues .exit) ≡ withQueues (now (queues .entry)) (writeRegisterQueues version self (now (queues .entry)) address value) (now (queues .entry)) ⌝ }
+        ensures result { λ r. ⌜ r ≡ withQueues (now (queues .entry)) (writeRegister version self address value) self ⌝ }
+        ensures queues { λ _. ⌜ now (queues .exit)
+            ≡ withQueues (now (queues .entry)) (writeRegisterQueues version self (now (queues .entry)) address value) (now (queues .entry)) ⌝ }
     {
         if queues.len() != QUEUE_BUFFER {
             return self;
