@@ -1,6 +1,6 @@
 // What a program does with standard input and standard output: bytes read, moved and written, and what is said where that fails.
 ghost use mathlib.Core.Path.{_≡_};
-ghost use Prim.Native.Nat.{_-_};
+ghost use Prim.Native.Nat.{_-_, _≤_};
 ghost use lib.ListN.{length, take, drop};
 ghost use Rattle.num.specs.Lists.{part};
 ghost use Rattle.program.specs.Places.{placeAfter};
@@ -17,12 +17,9 @@ pub enum Input {
     Failed,
 }
 
-// Says on standard error why a program of a name stops.
-pub fn complain(name: &[u8], reason: &[u8]) {
-    io::write_all(libc::STDERR_FILENO, name);
-    io::write_all(libc::STDERR_FILENO, b": ");
-    io::write_all(libc::STDERR_FILENO, reason);
-    io::write_all(libc::STDERR_FILENO, b"\n");
+// Writes a text to standard error.
+pub fn say(text: &[u8]) {
+    io::write_all(libc::STDERR_FILENO, text);
 }
 
 // Writes a text to standard output, and answers whether it could.
@@ -33,6 +30,7 @@ pub fn write(text: &[u8]) -> bool {
 // Writes the text's bytes before `at` to standard output if fewer than `room` are left behind them, and answers where to go on.
 pub fn flush(text: &[u8], at: usize, room: usize) -> usize
     ensures { λ r. ⌜ r ≡ placeAfter (length (now (text .entry))) at room ⌝ }
+    ensures { λ r. ⌜ r ≤ length (now (text .entry)) ⌝ }
 {
     if at <= text.len() {
         if room <= text.len() - at {

@@ -1,7 +1,4 @@
 // Standard input line by line.
-ghost use mathlib.Core.Path.{_≡_};
-ghost use Prim.Native.Nat.{_≤_, _<_};
-ghost use lib.ListN.{length};
 use crate::Input;
 
 // A line in a buffer: its bytes are those from `from` to before `to`, where its closing byte 10 stands. The bytes of the buffer

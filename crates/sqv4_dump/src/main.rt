@@ -1,4 +1,4 @@
 // Prints what the SQV4 file on standard input is.
 fn main() {
-    sqv4_text::run(false);
+    sqv4_text::print_single();
 }

@@ -5,6 +5,9 @@ ghost use mathlib.Core.List.{[], _∷_};
 ghost use lib.ListN.{length};
 ghost use Rattle.decimal.specs.Written.{Put};
 ghost use Rattle.sqv4_text.specs.Lines.{Lists, headerValues, valuesOf, samplesIn, fields, lines, wordOf, answerLine};
+
+mod pieces;
+
 use sqv4::Header;
 use sqv4::Inspected;
 
@@ -83,7 +86,7 @@ fn two(number: u64, value: u8) -> Values
 }
 
 // The interleaved samples that a file has.
-pub fn sample_count(found: Inspected) -> usize
+fn sample_count(found: Inspected) -> usize
     ensures { λ r. ⌜ r ≡ samplesIn found ⌝ }
 {
     let Inspected::Accepted(header) = found else {
@@ -131,7 +134,7 @@ fn put_word(out: &mut [u8], at: usize, found: Inspected) -> usize
 }
 
 // Puts the line of the check's answer into out from `at` on, as far as there is room, and answers the place behind it, at most out's end.
-pub fn put_answer(out: &mut [u8], at: usize, found: Inspected) -> usize
+fn put_answer(out: &mut [u8], at: usize, found: Inspected) -> usize
     ensures { λ r. ⌜ Put (now (out .entry)) (now (out .exit)) at (answerLine found) r ⌝ }
 {
     let listed = values_of(found);
@@ -142,19 +145,6 @@ pub fn put_answer(out: &mut [u8], at: usize, found: Inspected) -> usize
     decimal::put_byte(out, end, 10)
 }
 
-// Writes the text's bytes before `at` to standard output if fewer than `room` are left behind them, and answers where to go on.
-fn flush(text: &[u8], at: usize, room: usize) -> usize
-    ensures { λ r. ⌜ r ≤ length (now (text .entry)) ⌝ }
-{
-    if at <= text.len() {
-        if room <= text.len() - at {
-            return at;
-        }
-        io::write_all(libc::STDOUT_FILENO, &text[..at]);
-    }
-    0
-}
-
 fn print_samples(samples: &[i16], text: &mut [u8], at: usize) -> usize
     ensures { λ r. ⌜ r ≤ length (now (text .exit)) ⌝ }
 {
@@ -162,7 +152,7 @@ fn print_samples(samples: &[i16], text: &mut [u8], at: usize) -> usize
     let mut from = 0;
     while from < samples.len() {
         let to = from + num::least(4096, samples.len() - from);
-        let start = flush(text, end, 32768);
+        let start = program::flush(text, end, 32768);
         end = put_samples(text, start, &samples[from..to]);
         from = to;
     }
@@ -173,7 +163,7 @@ fn print_samples(samples: &[i16], text: &mut [u8], at: usize) -> usize
 fn print_file(file: &[u8], samples: &mut [i16], text: &mut [u8], at: usize) -> usize
     ensures { λ r. ⌜ r ≤ length (now (text .exit)) ⌝ }
 {
-    let start = flush(text, at, 128);
+    let start = program::flush(text, at, 128);
     if LONGEST < file.len() {
         return decimal::put_text(text, start, b"too long\n");
     }
@@ -196,7 +186,7 @@ fn number(bytes: &[u8; 4]) -> usize {
 
 // Prints why nothing more is read.
 fn stop(text: &mut [u8], at: usize, reason: &[u8]) -> Next {
-    let start = flush(text, at, 128);
+    let start = program::flush(text, at, 128);
     Next::Last(decimal::put_text(text, start, reason))
 }
 
@@ -237,34 +227,40 @@ fn print_all(file: &mut [u8], samples: &mut [i16], text: &mut [u8]) {
             }
         }
     }
-    flush(text, at, EVERYTHING);
+    program::flush(text, at, EVERYTHING);
 }
 
-// Prints what the one file on standard input is, by way of the lent buffers.
-fn print_one(file: &mut [u8], samples: &mut [i16], text: &mut [u8]) {
-    let length = io::read_full(libc::STDIN_FILENO, file);
-    let end = print_file(&file[..length], samples, text, 0);
-    flush(text, end, EVERYTHING);
-}
-
-fn print_input(batch: bool, file: &mut [u8], samples: &mut [i16]) {
+fn print_input(file: &mut [u8], samples: &mut [i16]) {
     let mut text = io::large_buffer();
-    if batch {
-        print_all(file, samples, &mut text);
-    } else {
-        print_one(file, samples, &mut text);
-    }
+    print_all(file, samples, &mut text);
 }
 
 // Room for the longest file and one byte more.
-fn with_samples(batch: bool, samples: &mut [i16]) {
+fn with_samples(samples: &mut [i16]) {
     let mut file = [0u8; 1048577];
-    print_input(batch, &mut file, samples);
+    print_input(&mut file, samples);
 }
 
-// Prints what the file on standard input is, or each of a batch of files, of which each stands after its length in 4 bytes, low
-// byte first. The longest file has at most 41,942 fragments of 25 bytes, with 64 samples in each.
-pub fn run(batch: bool) {
+// Prints what each of a batch of files on standard input is, of which each stands after its length in 4 bytes, low byte first.
+// The longest file has at most 41,942 fragments of 25 bytes, with 64 samples in each.
+pub fn print_batch() {
     let mut samples = [0i16; 2684288];
-    with_samples(batch, &mut samples);
+    with_samples(&mut samples);
+}
+
+fn print_one(file: &mut [u8], text: &mut [u8]) {
+    let length = io::read_full(libc::STDIN_FILENO, &mut *file);
+    let end = pieces::print_file(num::part(file, 0, length), &mut *text);
+    program::flush(text, end, EVERYTHING);
+}
+
+fn with_text(file: &mut [u8]) {
+    let mut text = io::large_buffer();
+    print_one(file, &mut text);
+}
+
+// Prints what the one file on standard input is. It has no buffer for the samples.
+pub fn print_single() {
+    let mut file = [0u8; 1048577];
+    with_text(&mut file);
 }

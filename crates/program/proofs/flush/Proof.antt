@@ -9,7 +9,7 @@ sub-if2 : tie.Need-sub-if2
 sub-if2 c = search needs
 
 returns : tie.Need-returns
-returns c = sym (goes-on _ _ _ (omega arith))
+returns c = (sym (goes-on _ _ _ (omega arith)), omega arith)
 
 part-requires : tie.Need-part-requires
 part-requires c κs = search needs
@@ -18,10 +18,10 @@ write-requires : tie.Need-write-requires
 write-requires c κs = search needs
 
 returns-2 : tie.Need-returns-2
-returns-2 c = sym (begins _ _ _ (omega arith))
+returns-2 c = (sym (begins _ _ _ (omega arith)), omega arith)
 
 returns-3 : tie.Need-returns-3
-returns-3 c = sym (begins _ _ _ (omega arith))
+returns-3 c = (sym (begins _ _ _ (omega arith)), omega arith)
 
 pub flush-spec : {M : Type 1} → statement M
 flush-spec = tie.close (tie.spec sub-if2 returns part-requires write-requires returns-2 returns-3)

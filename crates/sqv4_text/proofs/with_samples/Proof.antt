@@ -11,7 +11,7 @@ print-input-requires : tie.Need-print-input-requires
 print-input-requires c κs = tt
 
 same-length : tie.Need-same-length
-same-length c = c .before .before .print-input .kept .1 .1 .0
+same-length c = c .before .before .print-input .kept .1 .0
 
 returns : tie.Need-returns
 returns c = tt
