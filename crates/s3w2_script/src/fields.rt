@@ -137,14 +137,6 @@ pub(crate) fn flag_number(x: bool) -> u8 {
     if x { 1 } else { 0 }
 }
 
-pub(crate) fn put_naturals(out: &mut [u8], at: usize, naturals: &[u64]) -> usize {
-    let mut end = at;
-    for i in 0..naturals.len() {
-        end = put(&mut *out, end, naturals[i]);
-    }
-    end
-}
-
 pub(crate) fn put_bytes(out: &mut [u8], at: usize, bytes: &[u8]) -> usize {
     let mut end = at;
     for i in 0..bytes.len() {

@@ -9,48 +9,61 @@ use s3w2::Chip;
 use sizes::QUEUE_BUFFER;
 use stream::Cached;
 use stream::Held;
+use stream::Info;
 use stream::StreamCache;
 use ticks::Oscillator;
 use voice::Channel;
 
-fn registers_numbers(g: Registers) -> [u64; 9] {
+// A number of a voice's state: one that is not negative, or a sample.
+enum Number {
+    Natural(u64),
+    Sample(i16),
+}
+
+fn registers_number(g: Registers, k: usize) -> u64 {
     let waveform = g.waveform_type;
     let modulation = g.modulation_type;
-    [
-        g.frequency as u64,
-        waveform.number() as u64,
-        g.volume as u64,
-        g.panpot as u64,
-        modulation.number() as u64,
-        g.modulation_target as u64,
-        g.modulation_targeting_mode as u64,
-        g.modulation_param_1 as u64,
-        g.modulation_param_2 as u64,
-    ]
+    match k {
+        0 => g.frequency as u64,
+        1 => waveform.number() as u64,
+        2 => g.volume as u64,
+        3 => g.panpot as u64,
+        4 => modulation.number() as u64,
+        5 => g.modulation_target as u64,
+        6 => g.modulation_targeting_mode as u64,
+        7 => g.modulation_param_1 as u64,
+        _ => g.modulation_param_2 as u64,
+    }
 }
 
-fn pcm_numbers(p: PcmRegisters) -> [u64; 6] {
-    [
-        p.start_addr as u64,
-        p.end_addr as u64,
-        p.loop_addr as u64,
-        p.control as u64,
-        p.sample_control as u64,
-        fields::flag_number(p.active) as u64,
-    ]
+fn pcm_number(p: PcmRegisters, k: usize) -> u64 {
+    match k {
+        9 => p.start_addr as u64,
+        10 => p.end_addr as u64,
+        11 => p.loop_addr as u64,
+        12 => p.control as u64,
+        13 => p.sample_control as u64,
+        _ => fields::flag_number(p.active) as u64,
+    }
 }
 
-fn put_oscillator(out: &mut [u8], at: usize, o: Oscillator) -> usize {
-    let phases = [o.phase, o.old_phase, o.lfsr_state as u64];
-    let first = fields::put_naturals(&mut *out, at, &phases);
-    let second = fields::put_number(&mut *out, first, fields::long_sample(o.last_sample));
-    fields::put(out, second, o.slew_current as u64)
+fn oscillator_number(o: Oscillator, k: usize) -> Number {
+    match k {
+        15 => Number::Natural(o.phase),
+        16 => Number::Natural(o.old_phase),
+        17 => Number::Natural(o.lfsr_state as u64),
+        18 => Number::Sample(o.last_sample),
+        _ => Number::Natural(o.slew_current as u64),
+    }
 }
 
-fn put_fifo(out: &mut [u8], at: usize, f: Fifo) -> usize {
-    let counts = [f.hold as u64, f.sub as u64, f.latch as u64];
-    let end = fields::put_number(&mut *out, at, fields::long_sample(f.held));
-    fields::put_naturals(out, end, &counts)
+fn fifo_number(f: Fifo, k: usize) -> Number {
+    match k {
+        20 => Number::Sample(f.held),
+        21 => Number::Natural(f.hold as u64),
+        22 => Number::Natural(f.sub as u64),
+        _ => Number::Natural(f.latch as u64),
+    }
 }
 
 fn held_number(held: Held) -> u64 {
@@ -71,31 +84,57 @@ fn cached_number(cached: Cached) -> u64 {
     }
 }
 
-fn cache_numbers(s: StreamCache) -> [u64; 10] {
-    let info = s.info;
+fn info_number(info: Info, k: usize) -> u64 {
+    match k {
+        25 => info.version as u64,
+        27 => info.sample_count as u64,
+        28 => info.frame_samples as u64,
+        29 => info.frame_size as u64,
+        _ => info.loop_sample as u64,
+    }
+}
+
+fn cache_number(s: StreamCache, k: usize) -> Number {
     let held = s.variant;
     let even = s.even;
     let odd = s.odd;
-    [
-        fields::flag_number(s.valid) as u64,
-        info.version as u64,
-        held_number(held),
-        info.sample_count as u64,
-        info.frame_samples as u64,
-        info.frame_size as u64,
-        info.loop_sample as u64,
-        cached_number(even),
-        cached_number(odd),
-        s.next_frame as u64,
-    ]
+    let decoder = s.decoder;
+    match k {
+        24 => Number::Natural(fields::flag_number(s.valid) as u64),
+        26 => Number::Natural(held_number(held)),
+        31 => Number::Natural(cached_number(even)),
+        32 => Number::Natural(cached_number(odd)),
+        33 => Number::Natural(s.next_frame as u64),
+        34 => Number::Sample(decoder.predictor),
+        35 => Number::Natural(decoder.index as u64),
+        _ => Number::Natural(info_number(s.info, k)),
+    }
 }
 
-fn put_cache(out: &mut [u8], at: usize, s: StreamCache) -> usize {
-    let decoder = s.decoder;
-    let numbers = cache_numbers(s);
-    let first = fields::put_naturals(&mut *out, at, &numbers);
-    let second = fields::put_number(&mut *out, first, fields::long_sample(decoder.predictor));
-    fields::put(out, second, decoder.index as u64)
+// The numbers of a voice's state, in the order in which they are printed.
+const NUMBERS: usize = 36;
+
+fn voice_number(c: Channel, k: usize) -> Number {
+    if k < 9 {
+        return Number::Natural(registers_number(c.registers, k));
+    }
+    if k < 15 {
+        return Number::Natural(pcm_number(c.pcm, k));
+    }
+    if k < 20 {
+        return oscillator_number(c.oscillator, k);
+    }
+    if k < 24 {
+        return fifo_number(c.fifo, k);
+    }
+    cache_number(c.stream, k)
+}
+
+fn put_number(out: &mut [u8], at: usize, number: Number) -> usize {
+    match number {
+        Number::Natural(n) => fields::put(out, at, n),
+        Number::Sample(x) => fields::put_number(out, at, fields::long_sample(x)),
+    }
 }
 
 // The queue's count and its entries, oldest first.
@@ -110,13 +149,11 @@ fn put_queue(out: &mut [u8], at: usize, f: Fifo, queues: &[i16], ch: usize) -> u
 }
 
 fn put_channel(out: &mut [u8], at: usize, c: Channel) -> usize {
-    let registers = registers_numbers(c.registers);
-    let pcm = pcm_numbers(c.pcm);
-    let first = fields::put_naturals(&mut *out, at, &registers);
-    let second = fields::put_naturals(&mut *out, first, &pcm);
-    let third = put_oscillator(&mut *out, second, c.oscillator);
-    let fourth = put_fifo(&mut *out, third, c.fifo);
-    put_cache(out, fourth, c.stream)
+    let mut end = at;
+    for k in 0..NUMBERS {
+        end = put_number(&mut *out, end, voice_number(c, k));
+    }
+    end
 }
 
 pub(crate) fn put_voice(out: &mut [u8], at: usize, chip: Chip, queues: &[i16], ch: usize) -> usize {

@@ -54,6 +54,10 @@ fn put_wide_sides(
     calls::put_answer(out, at, answer)
 }
 
+fn clocked(chip: Chip, frames: usize, ram: &[u8], queues: &mut [i16], stems: &mut [i16]) -> Called {
+    chip.clock(ram, queues, frames, stems)
+}
+
 // Clocks into two sides that hold samples from a seed.
 fn mixed(
     chip: Chip,
@@ -99,7 +103,7 @@ impl Player {
         let chip = self.chip;
         let mut stems = [0i16; 8192];
         let n = num::least(fields::size(f, 1), 8192);
-        let called = chip.clock(ram, queues, fields::size(f, 0), &mut stems[..n]);
+        let called = clocked(chip, fields::size(f, 0), ram, queues, &mut stems[..n]);
         let next = called.chip;
         let answer = called.answer;
         self.with(next, put_stems(out, at, answer, &stems, n))
