@@ -8,7 +8,7 @@ use decimal::TakenNatural;
 
 // The numeral from `at` to the end, of a number that is at most `most`.
 fn one_number(text: &[u8], at: usize, most: u32) -> One
-    ensures { λ r. ⌜ r ≡ oneAt (now (text .entry)) at most ⌝ }
+    ensures result { λ r. ⌜ r ≡ oneAt (now (text .entry)) at most ⌝ }
     ensures { λ r. ⌜ Within most r ⌝ }
 {
     let taken = decimal::take_natural(text, at);

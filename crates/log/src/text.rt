@@ -32,8 +32,10 @@ fn put_frame(out: &mut [u8], at: usize, left: i16, right: i16) -> usize
 
 // Puts a line for each frame of two sides, as many as the shorter has.
 pub fn put_frames(out: &mut [u8], at: usize, left: &[i16], right: &[i16]) -> usize
-    ensures { λ r. ⌜ Put (now (out .entry)) (now (out .exit)) at (frameLines (now (left .entry)) (now (right .entry)) (min (length (now (left .entry))) (length (now (right .entry))))) r ⌝ }
-    ensures { λ _. ⌜ length (frameLines (now (left .entry)) (now (right .entry)) (min (length (now (left .entry))) (length (now (right .entry))))) ≤ 16 * min (length (now (left .entry))) (length (now (right .entry))) ⌝ }
+    ensures put { λ r. ⌜ Put (now (out .entry)) (now (out .exit)) at
+        (frameLines (now (left .entry)) (now (right .entry)) (min (length (now (left .entry))) (length (now (right .entry))))) r ⌝ }
+    ensures bound { λ _. ⌜ length (frameLines (now (left .entry)) (now (right .entry))
+        (min (length (now (left .entry))) (length (now (right .entry))))) ≤ 16 * min (length (now (left .entry))) (length (now (right .entry))) ⌝ }
 {
     let frames = num::least(left.len(), right.len());
     let mut end = num::least(at, out.len());
@@ -47,24 +49,24 @@ pub fn put_frames(out: &mut [u8], at: usize, left: &[i16], right: &[i16]) -> usi
 
 // Puts `R`, the address and the byte.
 pub fn put_read(out: &mut [u8], at: usize, address: u32, byte: u8) -> usize
-    ensures { λ r. ⌜ Put (now (out .entry)) (now (out .exit)) at (readBackLine 82 address byte) r ⌝ }
-    ensures { λ _. ⌜ length (readBackLine 82 address byte) ≤ 17 ⌝ }
+    ensures put { λ r. ⌜ Put (now (out .entry)) (now (out .exit)) at (readBackLine 82 address byte) r ⌝ }
+    ensures bound { λ _. ⌜ length (readBackLine 82 address byte) ≤ 17 ⌝ }
 {
     put_pair(out, at, b"R", address as i64, byte as i64)
 }
 
 // Puts `P`, the address and the byte.
 pub fn put_peek(out: &mut [u8], at: usize, address: u32, byte: u8) -> usize
-    ensures { λ r. ⌜ Put (now (out .entry)) (now (out .exit)) at (readBackLine 80 address byte) r ⌝ }
-    ensures { λ _. ⌜ length (readBackLine 80 address byte) ≤ 17 ⌝ }
+    ensures put { λ r. ⌜ Put (now (out .entry)) (now (out .exit)) at (readBackLine 80 address byte) r ⌝ }
+    ensures bound { λ _. ⌜ length (readBackLine 80 address byte) ≤ 17 ⌝ }
 {
     put_pair(out, at, b"P", address as i64, byte as i64)
 }
 
 // Puts the line that tells of a malformed one: `bad`, its number, 17.
 pub fn put_bad(out: &mut [u8], at: usize, number: u64) -> usize
-    ensures { λ r. ⌜ Put (now (out .entry)) (now (out .exit)) at (badLine number) r ⌝ }
-    ensures { λ _. ⌜ length (badLine number) ≤ 28 ⌝ }
+    ensures put { λ r. ⌜ Put (now (out .entry)) (now (out .exit)) at (badLine number) r ⌝ }
+    ensures bound { λ _. ⌜ length (badLine number) ≤ 28 ⌝ }
 {
     let first = decimal::put_text(out, at, b"bad,");
     let second = decimal::put_natural(out, first, number);

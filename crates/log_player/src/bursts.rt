@@ -56,7 +56,7 @@ fn collect(
     values: &mut [u8],
 ) -> Collected
     requires { ⌜ (most ≤ length (now addresses)) × (most ≤ length (now values)) ⌝ }
-    ensures { λ r. ⌜ r .count ≤ most ⌝ }
+    ensures bound { λ r. ⌜ r .count ≤ most ⌝ }
     ensures { λ r. ⌜ Collects «to_ram» (now (input .entry)) from (r .from) (r .count) (now (addresses .exit)) (now (values .exit)) ⌝ }
 {
     let mut count = 0;
@@ -89,7 +89,9 @@ impl Player {
         ram: &mut [u8],
         queues: &mut [i16],
     ) -> Player
-        ensures { λ r. ⌜ world r (now (ram .exit)) (now (queues .exit)) ≡ allWritten «to_ram» (min (length (now (addresses .entry))) (length (now (values .entry)))) (now (addresses .entry)) (now (values .entry)) (world self (now (ram .entry)) (now (queues .entry))) ⌝ }
+        ensures { λ r. ⌜ world r (now (ram .exit)) (now (queues .exit))
+            ≡ allWritten «to_ram» (min (length (now (addresses .entry))) (length (now (values .entry)))) (now (addresses .entry))
+            (now (values .entry)) (world self (now (ram .entry)) (now (queues .entry))) ⌝ }
     {
         let chip = self.chip;
         if to_ram {
@@ -121,7 +123,8 @@ impl Player {
         queues: &mut [i16],
     ) -> Burst
         requires { ⌜ number + 1 < 2 ^ 64 ⌝ }
-        ensures { λ r. ⌜ Bursts (now (input .entry)) (world self (now (ram .entry)) (now (queues .entry))) number from (world (r .player) (now (ram .exit)) (now (queues .exit))) (r .number) (r .from) ⌝ }
+        ensures { λ r. ⌜ Bursts (now (input .entry)) (world self (now (ram .entry)) (now (queues .entry))) number from
+            (world (r .player) (now (ram .exit)) (now (queues .exit))) (r .number) (r .from) ⌝ }
         ensures { λ r. ⌜ (number ≤ r .number) × (r .number + 1 < 2 ^ 64) ⌝ }
     {
         let mut addresses = [0u32; 256];

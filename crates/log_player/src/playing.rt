@@ -33,8 +33,8 @@ fn byte_of(answer: Answer) -> u8
 impl Player {
     // A fresh V3.1 chip; its RAM is zeroed.
     pub fn fresh(ram: &mut [u8]) -> Player
-        ensures { λ r. ⌜ r ≡ freshPlayer (length (now (ram .entry))) ⌝ }
-        ensures { λ _. ⌜ now (ram .exit) ≡ madeRam (now (ram .entry)) ⌝ }
+        ensures result { λ r. ⌜ r ≡ freshPlayer (length (now (ram .entry))) ⌝ }
+        ensures ram { λ _. ⌜ now (ram .exit) ≡ madeRam (now (ram .entry)) ⌝ }
     {
         let made = Chip::with_version(ram, SguVersion::V3_1);
         let chip = made.chip;
@@ -46,8 +46,8 @@ impl Player {
     }
 
     fn with_chip(self, chip: Chip, end: usize) -> Played
-        ensures { λ r. ⌜ r .player ≡ withChip self chip ⌝ }
-        ensures { λ r. ⌜ r .end ≡ end ⌝ }
+        ensures player { λ r. ⌜ r .player ≡ withChip self chip ⌝ }
+        ensures end { λ r. ⌜ r .end ≡ end ⌝ }
     {
         let player = Player {
             chip,
@@ -67,10 +67,12 @@ impl Player {
         out: &mut [u8],
         at: usize,
     ) -> Played
-        ensures { λ r. ⌜ r .player ≡ clockedPlayer self (now (ram .entry)) (now (queues .entry)) (now (left .entry)) (now (right .entry)) ⌝ }
-        ensures { λ _. ⌜ now (queues .exit) ≡ now (queues .entry) ⌝ }
-        ensures { λ r. ⌜ Put (now (out .entry)) (now (out .exit)) at (clockedText (self .chip) (now (ram .entry)) (now (queues .entry)) (now (left .entry)) (now (right .entry))) (r .end) ⌝ }
-        ensures { λ _. ⌜ length (clockedText (self .chip) (now (ram .entry)) (now (queues .entry)) (now (left .entry)) (now (right .entry))) ≤ 16 * length (now (left .entry)) ⌝ }
+        ensures player { λ r. ⌜ r .player ≡ clockedPlayer self (now (ram .entry)) (now (queues .entry)) (now (left .entry)) (now (right .entry)) ⌝ }
+        ensures queues { λ _. ⌜ now (queues .exit) ≡ now (queues .entry) ⌝ }
+        ensures put { λ r. ⌜ Put (now (out .entry)) (now (out .exit)) at
+            (clockedText (self .chip) (now (ram .entry)) (now (queues .entry)) (now (left .entry)) (now (right .entry))) (r .end) ⌝ }
+        ensures bound { λ _. ⌜ length (clockedText (self .chip) (now (ram .entry)) (now (queues .entry)) (now (left .entry))
+            (now (right .entry))) ≤ 16 * length (now (left .entry)) ⌝ }
     {
         let chip = self.chip;
         let called = chip.clock_mixed(ram, queues, &mut *left, &mut *right);
@@ -85,10 +87,11 @@ impl Player {
     }
 
     fn clock(self, frames: u32, ram: &[u8], queues: &mut [i16], out: &mut [u8], at: usize) -> Played
-        ensures { λ r. ⌜ r .player ≡ clockedPlayer self (now (ram .entry)) (now (queues .entry)) (silent frames) (silent frames) ⌝ }
-        ensures { λ _. ⌜ now (queues .exit) ≡ now (queues .entry) ⌝ }
-        ensures { λ r. ⌜ Put (now (out .entry)) (now (out .exit)) at (clockedText (self .chip) (now (ram .entry)) (now (queues .entry)) (silent frames) (silent frames)) (r .end) ⌝ }
-        ensures { λ _. ⌜ length (clockedText (self .chip) (now (ram .entry)) (now (queues .entry)) (silent frames) (silent frames)) ≤ 16000 ⌝ }
+        ensures player { λ r. ⌜ r .player ≡ clockedPlayer self (now (ram .entry)) (now (queues .entry)) (silent frames) (silent frames) ⌝ }
+        ensures queues { λ _. ⌜ now (queues .exit) ≡ now (queues .entry) ⌝ }
+        ensures put { λ r. ⌜ Put (now (out .entry)) (now (out .exit)) at
+            (clockedText (self .chip) (now (ram .entry)) (now (queues .entry)) (silent frames) (silent frames)) (r .end) ⌝ }
+        ensures bound { λ _. ⌜ length (clockedText (self .chip) (now (ram .entry)) (now (queues .entry)) (silent frames) (silent frames)) ≤ 16000 ⌝ }
     {
         let mut left = [0i16; 1000];
         let mut right = [0i16; 1000];
@@ -106,11 +109,12 @@ impl Player {
         out: &mut [u8],
         at: usize,
     ) -> Played
-        ensures { λ r. ⌜ r .player ≡ afterLine (world self (now (ram .entry)) (now (queues .entry))) line .player ⌝ }
-        ensures { λ _. ⌜ now (ram .exit) ≡ afterLine (world self (now (ram .entry)) (now (queues .entry))) line .ram ⌝ }
-        ensures { λ _. ⌜ now (queues .exit) ≡ afterLine (world self (now (ram .entry)) (now (queues .entry))) line .queues ⌝ }
-        ensures { λ r. ⌜ Put (now (out .entry)) (now (out .exit)) at (printed (world self (now (ram .entry)) (now (queues .entry))) line) (r .end) ⌝ }
-        ensures { λ _. ⌜ length (printed (world self (now (ram .entry)) (now (queues .entry))) line) ≤ 16000 ⌝ }
+        ensures player { λ r. ⌜ r .player ≡ afterLine (world self (now (ram .entry)) (now (queues .entry))) line .player ⌝ }
+        ensures ram { λ _. ⌜ now (ram .exit) ≡ afterLine (world self (now (ram .entry)) (now (queues .entry))) line .ram ⌝ }
+        ensures queues { λ _. ⌜ now (queues .exit) ≡ afterLine (world self (now (ram .entry)) (now (queues .entry))) line .queues ⌝ }
+        ensures put { λ r. ⌜ Put (now (out .entry)) (now (out .exit)) at (printed (world self (now (ram .entry)) (now (queues .entry))) line)
+            (r .end) ⌝ }
+        ensures bound { λ _. ⌜ length (printed (world self (now (ram .entry)) (now (queues .entry))) line) ≤ 16000 ⌝ }
     {
         let chip = self.chip;
         let same = num::least(at, out.len());

@@ -18,7 +18,7 @@ const ROOM: usize = 16384;
 
 // Whether there is room behind `end` for a line's text, and a number for the line behind it.
 fn has_room(length: usize, end: usize, number: u64) -> bool
-    ensures { λ r. ⌜ r ≡ hasRoom length end number ⌝ }
+    ensures result { λ r. ⌜ r ≡ hasRoom length end number ⌝ }
     ensures { λ r. ⌜ (r ≡ true → number + 1 < 2 ^ 64) ⌝ }
 {
     if number == 0xffff_ffff_ffff_ffff {
@@ -33,7 +33,7 @@ fn has_room(length: usize, end: usize, number: u64) -> bool
 // Moves the bytes from `from` to before `to` to the front, as far as there are any, and answers how many there are. The bytes
 // behind them stay.
 pub fn keep(input: &mut [u8], from: usize, to: usize) -> usize
-    ensures { λ r. ⌜ r ≡ length (part (now (input .entry)) from (to - from)) ⌝ }
+    ensures result { λ r. ⌜ r ≡ length (part (now (input .entry)) from (to - from)) ⌝ }
     ensures { λ r. ⌜ take r (now (input .exit)) ≡ part (now (input .entry)) from (to - from) ⌝ }
     ensures { λ r. ⌜ drop r (now (input .exit)) ≡ drop r (now (input .entry)) ⌝ }
 {
@@ -60,11 +60,20 @@ impl Player {
         queues: &mut [i16],
         out: &mut [u8],
     ) -> Ran
-        ensures { λ r. ⌜ r ≡ ranTo (runFrom (length (now (out .entry))) (now (input .entry)) (spot (world self (now (ram .entry)) (now (queues .entry))) number from [])) ⌝ }
-        ensures { λ _. ⌜ now (ram .exit) ≡ runFrom (length (now (out .entry))) (now (input .entry)) (spot (world self (now (ram .entry)) (now (queues .entry))) number from []) .world .ram ⌝ }
-        ensures { λ _. ⌜ now (queues .exit) ≡ runFrom (length (now (out .entry))) (now (input .entry)) (spot (world self (now (ram .entry)) (now (queues .entry))) number from []) .world .queues ⌝ }
-        ensures { λ _. ⌜ now (out .exit) ≡ sets (now (out .entry)) 0 (runFrom (length (now (out .entry))) (now (input .entry)) (spot (world self (now (ram .entry)) (now (queues .entry))) number from []) .text) ⌝ }
-        ensures { λ _. ⌜ length (runFrom (length (now (out .entry))) (now (input .entry)) (spot (world self (now (ram .entry)) (now (queues .entry))) number from []) .text) ≤ length (now (out .entry)) ⌝ }
+        ensures result { λ r. ⌜ r ≡ ranTo
+            (runFrom (length (now (out .entry))) (now (input .entry)) (spot (world self (now (ram .entry)) (now (queues .entry))) number from [])) ⌝ }
+        ensures ram { λ _. ⌜ now (ram .exit)
+            ≡ runFrom (length (now (out .entry))) (now (input .entry))
+            (spot (world self (now (ram .entry)) (now (queues .entry))) number from []) .world .ram ⌝ }
+        ensures queues { λ _. ⌜ now (queues .exit)
+            ≡ runFrom (length (now (out .entry))) (now (input .entry))
+            (spot (world self (now (ram .entry)) (now (queues .entry))) number from []) .world .queues ⌝ }
+        ensures out { λ _. ⌜ now (out .exit)
+            ≡ sets (now (out .entry)) 0
+            (runFrom (length (now (out .entry))) (now (input .entry))
+            (spot (world self (now (ram .entry)) (now (queues .entry))) number from []) .text) ⌝ }
+        ensures bound { λ _. ⌜ length (runFrom (length (now (out .entry))) (now (input .entry))
+            (spot (world self (now (ram .entry)) (now (queues .entry))) number from []) .text) ≤ length (now (out .entry)) ⌝ }
     {
         let mut player = self;
         let mut place = from;

@@ -27,9 +27,9 @@ pub fn line_end(input: &[u8], from: usize) -> usize
 
 impl Player {
     fn stepped(self, next: Next, end: usize) -> Stepped
-        ensures { λ r. ⌜ r .player ≡ self ⌝ }
-        ensures { λ r. ⌜ r .next ≡ next ⌝ }
-        ensures { λ r. ⌜ r .end ≡ end ⌝ }
+        ensures player { λ r. ⌜ r .player ≡ self ⌝ }
+        ensures next { λ r. ⌜ r .next ≡ next ⌝ }
+        ensures end { λ r. ⌜ r .end ≡ end ⌝ }
     {
         Stepped {
             player: self,
@@ -50,12 +50,21 @@ impl Player {
         out: &mut [u8],
         at: usize,
     ) -> Stepped
-        ensures { λ r. ⌜ r .next ≡ nextOf (drop from (now (input .entry))) from ⌝ }
-        ensures { λ r. ⌜ r .player ≡ stepAfter (world self (now (ram .entry)) (now (queues .entry))) (nextOf (drop from (now (input .entry))) from) (firstLine (drop from (now (input .entry)))) .player ⌝ }
-        ensures { λ _. ⌜ now (ram .exit) ≡ stepAfter (world self (now (ram .entry)) (now (queues .entry))) (nextOf (drop from (now (input .entry))) from) (firstLine (drop from (now (input .entry)))) .ram ⌝ }
-        ensures { λ _. ⌜ now (queues .exit) ≡ stepAfter (world self (now (ram .entry)) (now (queues .entry))) (nextOf (drop from (now (input .entry))) from) (firstLine (drop from (now (input .entry)))) .queues ⌝ }
-        ensures { λ r. ⌜ Put (now (out .entry)) (now (out .exit)) at (stepText (world self (now (ram .entry)) (now (queues .entry))) number (nextOf (drop from (now (input .entry))) from) (firstLine (drop from (now (input .entry))))) (r .end) ⌝ }
-        ensures { λ _. ⌜ length (stepText (world self (now (ram .entry)) (now (queues .entry))) number (nextOf (drop from (now (input .entry))) from) (firstLine (drop from (now (input .entry))))) ≤ 16000 ⌝ }
+        ensures next { λ r. ⌜ r .next ≡ nextOf (drop from (now (input .entry))) from ⌝ }
+        ensures player { λ r. ⌜ r .player
+            ≡ stepAfter (world self (now (ram .entry)) (now (queues .entry))) (nextOf (drop from (now (input .entry))) from)
+            (firstLine (drop from (now (input .entry)))) .player ⌝ }
+        ensures ram { λ _. ⌜ now (ram .exit)
+            ≡ stepAfter (world self (now (ram .entry)) (now (queues .entry))) (nextOf (drop from (now (input .entry))) from)
+            (firstLine (drop from (now (input .entry)))) .ram ⌝ }
+        ensures queues { λ _. ⌜ now (queues .exit)
+            ≡ stepAfter (world self (now (ram .entry)) (now (queues .entry))) (nextOf (drop from (now (input .entry))) from)
+            (firstLine (drop from (now (input .entry)))) .queues ⌝ }
+        ensures put { λ r. ⌜ Put (now (out .entry)) (now (out .exit)) at
+            (stepText (world self (now (ram .entry)) (now (queues .entry))) number (nextOf (drop from (now (input .entry))) from)
+            (firstLine (drop from (now (input .entry))))) (r .end) ⌝ }
+        ensures bound { λ _. ⌜ length (stepText (world self (now (ram .entry)) (now (queues .entry))) number
+            (nextOf (drop from (now (input .entry))) from) (firstLine (drop from (now (input .entry))))) ≤ 16000 ⌝ }
     {
         let same = num::least(at, out.len());
         if input.len() <= from {

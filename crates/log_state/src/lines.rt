@@ -8,8 +8,8 @@ use session::LineCalled;
 
 // Writes line k at out's beginning, if there is room for it.
 pub fn put_line(player: Player, queues: &[i16], k: usize, out: &mut [u8]) -> LineAnswer
-    ensures { λ r. ⌜ r ≡ putLineAnswer (player .chip) (now (queues .entry)) k (now (out .entry)) ⌝ }
-    ensures { λ _. ⌜ now (out .exit) ≡ putLineText (player .chip) (now (queues .entry)) k (now (out .entry)) ⌝ }
+    ensures answer { λ r. ⌜ r ≡ putLineAnswer (player .chip) (now (queues .entry)) k (now (out .entry)) ⌝ }
+    ensures out { λ _. ⌜ now (out .exit) ≡ putLineText (player .chip) (now (queues .entry)) k (now (out .entry)) ⌝ }
 {
     let chip = player.chip;
     if k == 0 {
@@ -36,8 +36,8 @@ fn taken(player: Player, called: LineCalled) -> Taken
 
 // Reads line k. A voice line sets the voice that its first field names.
 pub fn take_line(player: Player, queues: &mut [i16], k: usize, text: &[u8]) -> Taken
-    ensures { λ r. ⌜ r ≡ takeLine player (now (queues .entry)) k (now (text .entry)) ⌝ }
-    ensures { λ _. ⌜ now (queues .exit) ≡ takeLineQueues player (now (queues .entry)) k (now (text .entry)) ⌝ }
+    ensures result { λ r. ⌜ r ≡ takeLine player (now (queues .entry)) k (now (text .entry)) ⌝ }
+    ensures queues { λ _. ⌜ now (queues .exit) ≡ takeLineQueues player (now (queues .entry)) k (now (text .entry)) ⌝ }
 {
     let chip = player.chip;
     if k == 0 {

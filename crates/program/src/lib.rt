@@ -29,8 +29,8 @@ pub fn write(text: &[u8]) -> bool {
 
 // Writes the text's bytes before `at` to standard output if fewer than `room` are left behind them, and answers where to go on.
 pub fn flush(text: &[u8], at: usize, room: usize) -> usize
-    ensures { λ r. ⌜ r ≡ placeAfter (length (now (text .entry))) at room ⌝ }
-    ensures { λ r. ⌜ r ≤ length (now (text .entry)) ⌝ }
+    ensures result { λ r. ⌜ r ≡ placeAfter (length (now (text .entry))) at room ⌝ }
+    ensures bound { λ r. ⌜ r ≤ length (now (text .entry)) ⌝ }
 {
     if at <= text.len() {
         if room <= text.len() - at {
@@ -60,7 +60,7 @@ pub fn read_behind(input: &mut [u8], kept: usize) -> Input {
 // Moves the bytes from `from` to before `to` to the front, as far as there are any, and answers how many there are. The bytes
 // behind them stay.
 pub fn keep(input: &mut [u8], from: usize, to: usize) -> usize
-    ensures { λ r. ⌜ r ≡ length (part (now (input .entry)) from (to - from)) ⌝ }
+    ensures result { λ r. ⌜ r ≡ length (part (now (input .entry)) from (to - from)) ⌝ }
     ensures { λ r. ⌜ take r (now (input .exit)) ≡ part (now (input .entry)) from (to - from) ⌝ }
     ensures { λ r. ⌜ drop r (now (input .exit)) ≡ drop r (now (input .entry)) ⌝ }
 {

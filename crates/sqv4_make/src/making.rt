@@ -3,7 +3,8 @@ ghost use mathlib.Core.Path.{_≡_};
 ghost use Prim.Native.Nat.{_-_, _≤_};
 ghost use lib.ListN.{length, take};
 ghost use Rattle.sqv4_writer.specs.Streams.{answerFor, writtenInto, fileOf};
-ghost use Rattle.sqv4_make.specs.Making.{begunOf, spoiledOf, countedOf, headedBy, sampledBy, storedBy, keptOf, endedOf, samplesEnded, stepOf, samplesStep, fed, samplesFed, isWhole, mostSamples, mostBytes};
+ghost use Rattle.sqv4_make.specs.Making.{begunOf, spoiledOf, countedOf, headedBy, sampledBy, storedBy, keptOf, endedOf};
+ghost use Rattle.sqv4_make.specs.Making.{samplesEnded, stepOf, samplesStep, fed, samplesFed, isWhole, mostSamples, mostBytes};
 use crate::FirstLine;
 use crate::Progress;
 use crate::SampleLine;
@@ -109,8 +110,8 @@ fn kept(mut making: Progress, byte: u8) -> Progress
 
 // A line is whole.
 fn ended(making: Progress, samples: &mut [i16]) -> Progress
-    ensures { λ r. ⌜ r ≡ endedOf making ⌝ }
-    ensures { λ _. ⌜ now (samples .exit) ≡ samplesEnded making (now (samples .entry)) ⌝ }
+    ensures result { λ r. ⌜ r ≡ endedOf making ⌝ }
+    ensures samples { λ _. ⌜ now (samples .exit) ≡ samplesEnded making (now (samples .entry)) ⌝ }
 {
     let line = making.line;
     let filled = num::least(making.filled, LINE_SIZE);
@@ -125,8 +126,8 @@ fn ended(making: Progress, samples: &mut [i16]) -> Progress
 
 // One byte more.
 fn step(making: Progress, byte: u8, samples: &mut [i16]) -> Progress
-    ensures { λ r. ⌜ r ≡ stepOf making byte ⌝ }
-    ensures { λ _. ⌜ now (samples .exit) ≡ samplesStep making byte (now (samples .entry)) ⌝ }
+    ensures result { λ r. ⌜ r ≡ stepOf making byte ⌝ }
+    ensures samples { λ _. ⌜ now (samples .exit) ≡ samplesStep making byte (now (samples .entry)) ⌝ }
 {
     if !making.good {
         return making;
@@ -139,8 +140,8 @@ fn step(making: Progress, byte: u8, samples: &mut [i16]) -> Progress
 
 // Bytes one after the other.
 pub(crate) fn feed(first: Progress, bytes: &[u8], samples: &mut [i16]) -> Progress
-    ensures { λ r. ⌜ r ≡ fed first (now (bytes .entry)) ⌝ }
-    ensures { λ _. ⌜ now (samples .exit) ≡ samplesFed first (now (bytes .entry)) (now (samples .entry)) ⌝ }
+    ensures result { λ r. ⌜ r ≡ fed first (now (bytes .entry)) ⌝ }
+    ensures samples { λ _. ⌜ now (samples .exit) ≡ samplesFed first (now (bytes .entry)) (now (samples .entry)) ⌝ }
 {
     let mut making = first;
     let mut i = 0;
@@ -166,8 +167,12 @@ pub(crate) fn is_whole(making: Progress) -> bool
 // Makes the file of all samples.
 pub(crate) fn make(making: Progress, samples: &[i16], file: &mut [u8]) -> StreamAnswer
     requires { ⌜ (1 ≤ making .lines) × (length (now samples) ≡ mostSamples) × (length (now file) ≡ mostBytes) ⌝ }
-    ensures { λ r. ⌜ r ≡ answerFor (making .lines - 1) (making .terms .variant) (making .terms .rate) (making .terms .volume) (making .terms .index) mostBytes ⌝ }
-    ensures { λ r. ⌜ now (file .exit) ≡ writtenInto (now (file .entry)) (fileOf (take (making .lines - 1) (now (samples .entry))) (making .terms .variant) (making .terms .rate) (making .terms .volume) (making .terms .index)) r ⌝ }
+    ensures result { λ r. ⌜ r ≡ answerFor (making .lines - 1) (making .terms .variant) (making .terms .rate) (making .terms .volume)
+        (making .terms .index) mostBytes ⌝ }
+    ensures file { λ r. ⌜ now (file .exit)
+        ≡ writtenInto (now (file .entry))
+        (fileOf (take (making .lines - 1) (now (samples .entry))) (making .terms .variant) (making .terms .rate) (making .terms .volume)
+        (making .terms .index)) r ⌝ }
 {
     let terms = making.terms;
     let variant = terms.variant;
