@@ -27,15 +27,7 @@ fn with_buffers(program: Program, ram: &mut [u8], queues: &mut [i16]) {
     let mut input = io::large_buffer();
     // No multiple of 4,096 bytes: the two players on its two sides are copied to each other, which is slow at such a distance.
     let mut text = [0u8; 67584];
-    let fresh = playing::begun(&mut *ram);
-    match program {
-        Program::Log => playing::play(program, fresh, &mut input, &mut text, ram, queues),
-        Program::Save => playing::play(program, fresh, &mut input, &mut text, ram, queues),
-        Program::Load => {
-            let loaded = loading::load_state(fresh, &mut input, &mut text, &mut *ram, &mut *queues);
-            playing::play(program, loaded, &mut input, &mut text, ram, queues)
-        }
-    }
+    playing::play(program, &mut input, &mut text, ram, queues);
 }
 
 fn with_queues(program: Program, queues: &mut [i16]) {

@@ -59,7 +59,7 @@ fn take(
 // Goes on with more input behind the bytes before `end`; where there is none, or no room for any, they are the line.
 fn extend(load: Load, end: usize, input: &mut [u8], text: &mut [u8], queues: &mut [i16]) -> Load {
     let player = load.player;
-    let kept = log_player::keep(&mut *input, load.from, end);
+    let kept = program::keep(&mut *input, load.from, end);
     let read = read_behind(Program::Load, &mut *input, kept);
     match read {
         Input::More(more) => Load {

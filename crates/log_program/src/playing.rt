@@ -1,6 +1,7 @@
 // A log played from standard input.
 use crate::Program;
 use crate::Run;
+use crate::loading::load_state;
 use crate::moving::Input;
 use crate::moving::read_behind;
 use crate::moving::written;
@@ -27,6 +28,14 @@ pub(crate) fn stopped(player: Player) -> Run {
         filled: 0,
         number: 1,
         going: false,
+    }
+}
+
+fn loads(program: Program) -> bool {
+    match program {
+        Program::Log => false,
+        Program::Save => false,
+        Program::Load => true,
     }
 }
 
@@ -61,7 +70,7 @@ fn refilled(
     queues: &[i16],
 ) -> Run {
     let player = ran.player;
-    let kept = log_player::keep(&mut *input, ran.from, filled);
+    let kept = program::keep(&mut *input, ran.from, filled);
     let read = read_behind(program, input, kept);
     match read {
         Input::More(more) => Run {
@@ -79,6 +88,13 @@ fn refilled(
     }
 }
 
+// Plays lines of what stands in the input buffer.
+fn ran_on(run: Run, input: &[u8], text: &mut [u8], ram: &mut [u8], queues: &mut [i16]) -> Ran {
+    let player = run.player;
+    let read = num::part(input, 0, run.filled);
+    player.run(read, run.from, run.number, ram, queues, text)
+}
+
 // Plays what stands in the input buffer and writes what it prints.
 fn turn(
     program: Program,
@@ -89,15 +105,7 @@ fn turn(
     queues: &mut [i16],
 ) -> Run {
     let filled = run.filled;
-    let player = run.player;
-    let ran = player.run(
-        num::part(input, 0, filled),
-        run.from,
-        run.number,
-        &mut *ram,
-        &mut *queues,
-        &mut *text,
-    );
+    let ran = ran_on(run, &*input, &mut *text, &mut *ram, &mut *queues);
     let after = ran.player;
     if !written(program, &*text, ran.end) {
         return stopped(after);
@@ -116,16 +124,30 @@ fn turn(
     }
 }
 
-// Plays on from a run.
+// The run that a program begins with: a fresh player's, or that of the state which it reads.
+fn first(
+    program: Program,
+    input: &mut [u8],
+    text: &mut [u8],
+    ram: &mut [u8],
+    queues: &mut [i16],
+) -> Run {
+    let fresh = begun(&mut *ram);
+    if loads(program) {
+        return load_state(fresh, input, text, ram, queues);
+    }
+    fresh
+}
+
+// Plays the whole input.
 pub(crate) fn play(
     program: Program,
-    first: Run,
     input: &mut [u8],
     text: &mut [u8],
     ram: &mut [u8],
     queues: &mut [i16],
 ) {
-    let mut run = first;
+    let mut run = first(program, &mut *input, &mut *text, &mut *ram, &mut *queues);
     let mut turns: u64 = 0xffff_ffff_ffff_ffff;
     while 0 < turns {
         if run.going {

@@ -3,6 +3,7 @@
 use decimal::TakenNatural;
 use log_player::Next;
 use log_player::Player;
+use log_player::Ran;
 use s3w2::Chip;
 use sizes::QUEUE_BUFFER;
 
@@ -36,6 +37,19 @@ fn ended(player: Player, next: Next, from: usize, number: u64, length: usize) ->
     Loaded { player, bad: 0 }
 }
 
+// Plays lines of a text.
+fn ran_on(
+    player: Player,
+    text: &[u8],
+    from: usize,
+    number: u64,
+    ram: &mut [u8],
+    queues: &mut [i16],
+    printed: &mut [u8],
+) -> Ran {
+    player.run(text, from, number, ram, queues, printed)
+}
+
 // Plays a log; what its lines print is not kept.
 fn load(
     fresh: Player,
@@ -49,7 +63,15 @@ fn load(
     let mut number = 1;
     let mut turns = text.len();
     while 0 < turns {
-        let ran = player.run(text, from, number, &mut *ram, &mut *queues, &mut *printed);
+        let ran = ran_on(
+            player,
+            text,
+            from,
+            number,
+            &mut *ram,
+            &mut *queues,
+            &mut *printed,
+        );
         player = ran.player;
         from = ran.from;
         number = ran.number;

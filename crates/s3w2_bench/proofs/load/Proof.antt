@@ -14,8 +14,8 @@ abbrev μ-loop : tie.MeasureT-loop
 loop-holds : tie.Need-loop-holds Inv-loop μ-loop
 loop-holds c = search needs
 
-run-requires : tie.Need-run-requires Inv-loop μ-loop
-run-requires c κs = search needs
+ran-on-requires : tie.Need-ran-on-requires Inv-loop μ-loop
+ran-on-requires c κs = search needs
 
 enum-told : tie.Need-enum-told Inv-loop μ-loop
 enum-told c = search needs
@@ -63,7 +63,7 @@ load-spec =
     Inv-loop
     μ-loop
     loop-holds
-    run-requires
+    ran-on-requires
     enum-told
     ended-requires
     same-length

@@ -12,6 +12,9 @@ Inv-loop program input₀ text₀ ram₀ queues₀ run₀ turns₀ input text ra
 abbrev μ-loop : tie.MeasureT-loop
 μ-loop program input₀ text₀ ram₀ queues₀ run₀ turns₀ input text ram queues run turns = turns
 
+first-requires : tie.Need-first-requires Inv-loop μ-loop
+first-requires c κs = search needs
+
 loop-holds : tie.Need-loop-holds Inv-loop μ-loop
 loop-holds c = (refl, refl, refl, refl)
 
@@ -54,6 +57,7 @@ play-spec =
     (tie.spec
     Inv-loop
     μ-loop
+    first-requires
     loop-holds
     turn-requires
     sub-turns
