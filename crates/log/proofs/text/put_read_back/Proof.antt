@@ -1,8 +1,8 @@
 use borrow.Author.Needs.{needs}
 use Rattle.log.proofs.Texts.{wide}
 use Rattle.log.proofs.Lengths.{read-length}
-use Rattle.log.proofs.text.put_peek.Statement.{statement}
-use Rattle.log.proofs.text.put_peek.Tie as tie
+use Rattle.log.proofs.text.put_read_back.Statement.{statement}
+use Rattle.log.proofs.text.put_read_back.Tie as tie
 
 slice-aggregate-put-pair : tie.Need-slice-aggregate-put-pair
 slice-aggregate-put-pair c = search needs
@@ -24,8 +24,8 @@ returns c =
     let start = c .before .before .before .before .before .before in
     (rw (wide (start .args .address) (search needs), wide (start .args .byte) (search needs)) at (c .before .before .put-pair .ensures), read-length _ (start .args .address) (start .args .byte) (search needs) (search needs))
 
-pub put-peek-spec : {M : Type 1} → statement M
-put-peek-spec =
+pub put-read-back-spec : {M : Type 1} → statement M
+put-read-back-spec =
     tie.close
     (tie.spec
     slice-aggregate-put-pair
