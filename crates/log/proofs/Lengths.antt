@@ -9,6 +9,7 @@ use mir.Syntax.{w16}
 use mir.Val.{SFits}
 use Rattle.decimal.specs.Written.{decimal, render}
 use Rattle.decimal.proofs.Writing.{width-below, width-most, sample-width}
+use Rattle.log.proofs.Texts.{seventeen}
 use Rattle.log.specs.Texts.{commaField, pairLine, frameLine, frameLines, readBackLine, badLine}
 
 natural-length : (k n : ℕ) → n < 10 ^ suc k → length (render (pos n)) ≤ suc k
@@ -26,7 +27,7 @@ read-length kind address byte a b = omega (arith, pair-length (kind ∷ []) (pos
 pub bad-length : (number : ℕ) → number < 2 ^ 64 → length (badLine number) ≤ 28
 unfolding badLine
 bad-length number h =
-    omega (arith, width-most number h, length-append (decimal number) (44 ∷ 49 ∷ 55 ∷ 10 ∷ []))
+    rw seventeen (omega (arith, width-most number h, length-append (decimal number) (44 ∷ 49 ∷ 55 ∷ 10 ∷ [])))
 
 frame-length : (a b : ℤ) → SFits w16 a → SFits w16 b → length (frameLine a b) ≤ 16
 frame-length a b f g = omega (arith, pair-length (70 ∷ []) a b 6 6 (sample-width a f) (sample-width b g))

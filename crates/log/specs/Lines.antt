@@ -1,6 +1,6 @@
 -- Document 01's log lines, each without its closing byte 10.
 use mathlib.Core.Bool.{cond}
-use mathlib.Core.List.{List}
+use mathlib.Core.List.{List, [], _∷_}
 use Prim.Native.Nat.{ℕ, _+_, _≤_}
 use lib.Dec.{eqb, leb}
 use lib.ListN.{length, getD}
@@ -79,3 +79,13 @@ byKind text k =
 
 unfoldable pub parsedLine : List ℕ → Line
 parsedLine text = cond (eqb (getD text 1 0) 44) (byKind text (getD text 0 0)) Malformed
+
+-- document 01's number of a line that is turned away; one that is not has none
+abbrev pub numberOf : Line → List ℕ
+numberOf (Write a v) = []
+numberOf (WriteRam a v) = []
+numberOf (Read a) = []
+numberOf (Peek a) = []
+numberOf (Clock n) = []
+numberOf (Version v) = []
+numberOf Malformed = 17 ∷ []

@@ -1,6 +1,7 @@
 // A line, without its closing byte 10, taken apart.
 ghost use mathlib.Core.Path.{_≡_};
-ghost use Rattle.log.specs.Lines.{Within, oneAt, twoAt, asWrite, writtenRam, readOf, peekOf, clockOf, asVersion, parsedLine};
+ghost use Rattle.log.specs.Lines.{Within, oneAt, twoAt, asWrite, writtenRam, readOf, peekOf, clockOf, asVersion, parsedLine, numberOf};
+ghost use lib.ListN.{getD};
 use crate::Line;
 use crate::One;
 use crate::Two;
@@ -101,6 +102,23 @@ fn version_of(one: One) -> Line
     match one {
         One::Number(version) => Line::Version(version),
         One::NoNumber => Line::Malformed,
+    }
+}
+
+impl Line {
+    // Document 01's number of a line that is turned away; 0 where it is not.
+    pub fn number(self) -> u8
+        ensures { λ r. ⌜ r ≡ getD (numberOf self) 0 0 ⌝ }
+    {
+        match self {
+            Line::Write { .. } => 0,
+            Line::WriteRam { .. } => 0,
+            Line::Read(_) => 0,
+            Line::Peek(_) => 0,
+            Line::Clock(_) => 0,
+            Line::Version(_) => 0,
+            Line::Malformed => 17,
+        }
     }
 }
 

@@ -4,7 +4,9 @@ use mathlib.Core.List.{List, [], _∷_}
 use Prim.Native.Nat.{ℕ, _+_}
 use lib.Dec.{eqb, leb}
 use lib.ListN.{length}
+use Rattle.log.specs.declared.Line.the-variants.{Malformed}
 use Rattle.log.specs.Lines.{parsedLine}
+use Rattle.log.specs.Lines as lines
 use Rattle.log.specs.Texts.{badLine}
 use Rattle.log_player.specs.declared.Next.{Next}
 use Rattle.log_player.specs.declared.Next.the-variants.{Line as Played, Rest, Bad}
@@ -32,3 +34,9 @@ abbrev pub stepText : World → ℕ → Next → List ℕ → List ℕ
 stepText w number (Played place) line = printed w (parsedLine line)
 stepText w number Rest line = []
 stepText w number Bad line = badLine number
+
+-- document 01's number of what ends a log; where it goes on there is none
+abbrev pub numberOf : Next → List ℕ
+numberOf (Played place) = []
+numberOf Rest = []
+numberOf Bad = lines.numberOf Malformed

@@ -1,11 +1,11 @@
 // The next line of an input, and the end of one.
 ghost use mathlib.Core.Path.{_≡_};
 ghost use Prim.Native.Nat.{_+_, _≤_};
-ghost use lib.ListN.{length, drop};
+ghost use lib.ListN.{length, drop, getD};
 ghost use Rattle.decimal.specs.Written.{Put};
 ghost use Rattle.log_player.specs.Worlds.{world};
 ghost use Rattle.log_player.specs.Logs.{endText};
-ghost use Rattle.log_player.specs.Steps.{firstLine, nextOf, stepAfter, stepText};
+ghost use Rattle.log_player.specs.Steps.{firstLine, nextOf, stepAfter, stepText, numberOf};
 use crate::Next;
 use crate::Player;
 use crate::Stepped;
@@ -23,6 +23,19 @@ pub fn line_end(input: &[u8], from: usize) -> usize
         i += 1;
     }
     i
+}
+
+impl Next {
+    // Document 01's number of what ends a log: 17 for a malformed line; 0 where it goes on.
+    pub fn number(self) -> u8
+        ensures { λ r. ⌜ r ≡ getD (numberOf self) 0 0 ⌝ }
+    {
+        match self {
+            Next::Line(_) => 0,
+            Next::Rest => 0,
+            Next::Bad => 17,
+        }
+    }
 }
 
 impl Player {
