@@ -55,9 +55,9 @@ impl Player {
     }
 }
 
-/// Document 01's session text, then the RAM.
+/// Document 01's session text, with the RAM's length in the head as document 02 has it, then the RAM.
 fn save(chip: &S3w2Sound, out: &mut impl Write) {
-    writeln!(out, "S3W2,{}", chip.version as u8).unwrap();
+    writeln!(out, "S3W2,{},{}", chip.version as u8, chip.pcm_ram.borrow().len()).unwrap();
     for (ch, channel) in chip.channels.iter().enumerate() {
         // the fields up to the latch, the cache, then wavetable, queue count, queue
         let fields = channel.shown();

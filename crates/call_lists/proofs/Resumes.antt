@@ -1,10 +1,13 @@
 -- A list of calls on voices and on the plain chip, and a second chip that has read a session. Assumes nothing but what a session's lines
 -- promise (TextsOk).
 use mathlib.Core.Path.{_≡_, refl, sym, ap, _∙_, subst}
+use mathlib.Core.Bool.{Bool, true, cond}
 use mathlib.Core.List.{List, [], _∷_, map}
 use Prim.Native.Nat.{ℕ}
 use native.Mathlib.Omega.{arith}
 use lib.ListN.{length, length-map}
+use borrow.Author.Tests.{eq-eqb}
+use Rattle.tone.specs.Pcm.{isRamLength}
 use Rattle.version.specs.declared.SguVersion.{SguVersion}
 use Rattle.plain_chip.specs.Lists.{Every}
 use Rattle.slots.specs.Slots.{slotSetVersion, plainOf}
@@ -20,7 +23,7 @@ use Rattle.slots.proofs.Slots.{slots-plain}
 use Rattle.plain_chip.specs.Chips as chips
 use Rattle.call_lists.specs.Runs.{after}
 use Rattle.call_lists.specs.Texts.{Texts, TextsOk, HeadRead}
-use Rattle.call_lists.specs.Calls.{Call, readHead, readVoice, headTold, run}
+use Rattle.call_lists.specs.Calls.{Call, readHead, readVoice, replies, done, refused, gives, headTold, run}
 use Rattle.call_lists.specs.Seen.{seenOf, voices, seenOver, FitCall}
 use Rattle.call_lists.specs.Second.{slotResumed, Accepted}
 use Rattle.call_lists.proofs.Steps.{step}
@@ -54,14 +57,16 @@ module _ (t : Texts) (texts : TextsOk t) where
       plain-after (run slots t w c .next) cs (s .ok) (f .1) ∙ ap (λ (p : Plain). after (run plains t) p cs) (s .next)
 
   -- ---- the second chip, once it has read the session
-  module _ (first second : SlotChip) (g : SlotChipOk first) (a : Accepted second) (r : second .ram ≡ first .ram) where
+  module _ (first second : SlotChip) (g : SlotChipOk first) (a : Accepted second) (r : second .ram ≡ first .ram) (allowed : isRamLength (length (first .ram)) ≡ true) where
     -- the head empties every cache
     abbrev headed : SlotChip
     headed = chips.setVersion slots (first .version) second
 
-    pub head-read : run slots t second (readHead (t .headText (first .version))) .next ≡ headed
+    pub head-read : run slots t second (readHead (t .headText (first .version) (length (first .ram)))) .next ≡ headed
     unfolding run
-    head-read = ap (λ (h : HeadRead). headTold slots t second h .next) (texts .head-back (first .version))
+    head-read =
+        ap (λ (h : HeadRead). headTold slots t second h .next) (texts .head-back (first .version) (length (first .ram)) allowed)
+        ∙ ap (λ (b : Bool). cond b (gives slots t headed (replies done)) (gives slots t second (replies (refused (22 ∷ [])))) .next) (eq-eqb (length (first .ram)) (length (second .ram)) (ap length (sym r)))
 
     pub headed-good : SlotChipOk headed
     unfolding chips.setVersion

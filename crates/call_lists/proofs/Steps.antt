@@ -20,7 +20,7 @@ use Rattle.plain_chip.proofs.Calls.{chipSeen}
 use Rattle.plain_chip.proofs.Calls as calls
 use Rattle.call_lists.specs.Runs.{Outcome}
 use Rattle.call_lists.specs.Mixing.{Mix, clearedTo}
-use Rattle.call_lists.specs.Texts.{Texts, TextsOk, Told, VoiceRead, voice, HeadRead, head}
+use Rattle.call_lists.specs.Texts.{Texts, TextsOk, Told, VoiceRead, voice, HeadRead, head, sized}
 use Rattle.call_lists.specs.Calls.{Call, reset, setVersion, resetChannel, writeRegister, readRegister, peekRegister, writeChannelControl, readChannelControl, writeChannelPcmReg, readChannelPcmReg, writeChannelWavetable, readChannelWavetable, wavetableLength, interpolates, writePcmRam, readPcmRam, generateSample, clock, clockMixed, clockMixedInto, clockMixedIntoI32, writeHead, readHead, writeVoice, readVoice, done, byte, count, flag, sample, CallAnswer, replies, plays, lineAnswer, gives, mixes, mixedTo, headTold, voiceTold, run}
 use Rattle.call_lists.specs.Seen.{FitCall}
 use Rattle.call_lists.proofs.Mixing.{length-mixed, keeps-mixed, same-mixed}
@@ -60,8 +60,12 @@ module _ {A B : Type 0} {g : A → B} {P : SguVersion → List ℕ → A → Typ
           };
         }
 
+    versions : (version : SguVersion) → Same (headTold a t c (head version)) (headTold b t d (head version))
+    versions version = record { next = calls.same-set-version sim c ok version; answer = refl; ok = calls.ok-set-version sim c ok version }
+
     heads : (r : HeadRead) → Same (headTold a t c r) (headTold b t d r)
-    heads (head version) = record { next = calls.same-set-version sim c ok version; answer = refl; ok = calls.ok-set-version sim c ok version }
+    heads (head version) = versions version
+    heads (sized version size) = either (eqb size (length (c .ram))) _ _ _ _ (versions version) (still _ _ refl)
     heads (HeadRead.faulty field) = still _ _ refl
 
     voices : (r : VoiceRead) → Told (c .version) r → Same (voiceTold a t c r) (voiceTold b t d r)

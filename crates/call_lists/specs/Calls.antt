@@ -14,7 +14,7 @@ use Rattle.plain_chip.specs.Chips.{ModelChip, withVoices, fieldsAt, loadVoice}
 use Rattle.plain_chip.specs.Chips as chips
 use Rattle.call_lists.specs.Runs.{Outcome}
 use Rattle.call_lists.specs.Mixing.{Mix, mixed, clearedTo}
-use Rattle.call_lists.specs.Texts.{Texts, VoiceRead, voice, HeadRead, head}
+use Rattle.call_lists.specs.Texts.{Texts, VoiceRead, voice, HeadRead, head, sized}
 
 -- stems, sides and texts come with the call
 pub data Call : Type 0 where
@@ -82,8 +82,10 @@ module _ {A : Type 0} (m : Model A) (t : Texts) where
   abbrev pub mixedTo : ModelChip A → Mix A → Outcome (ModelChip A) CallAnswer
   mixedTo c x = gives (withVoices c (x .voices)) (plays done (x .left ∷ x .right ∷ []) (x .values))
 
+  -- a head that tells the length of another RAM is turned away
   abbrev pub headTold : ModelChip A → HeadRead → Outcome (ModelChip A) CallAnswer
   headTold c (head version) = gives (chips.setVersion m version c) (replies done)
+  headTold c (sized version size) = cond (eqb size (length (c .ram))) (gives (chips.setVersion m version c) (replies done)) (gives c (replies (refused (22 ∷ []))))
   headTold c (HeadRead.faulty field) = gives c (replies (refused (16 ∷ field ∷ [])))
 
   abbrev pub voiceTold : ModelChip A → VoiceRead → Outcome (ModelChip A) CallAnswer
@@ -119,7 +121,7 @@ module _ {A : Type 0} (m : Model A) (t : Texts) where
       mixedTo c (mixes saturating c (clearedTo n left) (clearedTo n right))
   run c (clockMixedInto left right) = mixedTo c (mixes saturating c left right)
   run c (clockMixedIntoI32 left right) = mixedTo c (mixes wrapping c left right)
-  run c (writeHead out) = gives c (lineAnswer (t .headText (c .version)) out)
+  run c (writeHead out) = gives c (lineAnswer (t .headText (c .version) (length (c .ram))) out)
   run c (readHead text) = headTold c (t .readHead text)
   run c (writeVoice ch out) = gives c (lineAnswer (t .voiceText ch (fieldsAt m c ch)) out)
   run c (readVoice text) = voiceTold c (t .readVoice (c .version) text)

@@ -1,6 +1,7 @@
 -- What is compared after each call, a session's reading by a second chip, and the calls' arguments.
 use mathlib.Core.List.{List, [], _∷_, map}
 use Prim.Native.Nat.{ℕ, suc, _<_}
+use lib.ListN.{length}
 use Rattle.version.specs.declared.SguVersion.{SguVersion}
 use Rattle.plain_chip.specs.Voices.{PlainVoice}
 use Rattle.plain_chip.specs.Models.{Model}
@@ -21,7 +22,7 @@ linesFrom t k [] = []
 linesFrom t k (v ∷ l) = t .voiceText k v ∷ linesFrom t (suc k) l
 
 abbrev pub seenOf : Texts → SguVersion → List ℕ → List PlainVoice → Seen
-seenOf t version ram voices = record { head = t .headText version; lines = linesFrom t 0 voices; ram = ram }
+seenOf t version ram voices = record { head = t .headText version (length ram); lines = linesFrom t 0 voices; ram = ram }
 
 -- the session's fields of the voices
 abbrev pub voices : {A : Type 0} → Model A → ModelChip A → List PlainVoice

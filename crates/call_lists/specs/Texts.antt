@@ -1,8 +1,10 @@
 -- What the session text asks of its lines: a head and a voice line written, and read.
 use mathlib.Core.Path.{_≡_}
+use mathlib.Core.Bool.{true}
 use mathlib.Core.List.{List}
 use Prim.Native.Nat.{ℕ, _<_}
 use Rattle.sizes.specs.Sizes.{numChannels}
+use Rattle.tone.specs.Pcm.{isRamLength}
 use Rattle.version.specs.declared.SguVersion.{SguVersion}
 use Rattle.plain_chip.specs.Voices.{PlainVoice}
 use Rattle.plain_chip.specs.Good.{FitVoice}
@@ -12,12 +14,15 @@ pub data VoiceRead : Type 0 where
   voice : ℕ → PlainVoice → VoiceRead
   faulty : ℕ → VoiceRead
 
+-- the version that a head names, and the length of the RAM if it tells it
 pub data HeadRead : Type 0 where
   head : SguVersion → HeadRead
+  sized : SguVersion → ℕ → HeadRead
   faulty : ℕ → HeadRead
 
 pub record Texts : Type 0 where
-  pub headText : SguVersion → List ℕ
+  -- of a chip over a RAM of some length
+  pub headText : SguVersion → ℕ → List ℕ
   pub readHead : List ℕ → HeadRead
   -- the line of voice ch; empty above 7
   pub voiceText : ℕ → PlainVoice → List ℕ
@@ -30,6 +35,6 @@ Told version (faulty field) = Unit {0}
 
 -- what is written is read back
 pub record TextsOk (t : Texts) : Type 0 where
-  pub head-back : (version : SguVersion) → t .readHead (t .headText version) ≡ head version
+  pub head-back : (version : SguVersion) (size : ℕ) → isRamLength size ≡ true → t .readHead (t .headText version size) ≡ sized version size
   pub told : (version : SguVersion) (text : List ℕ) → Told version (t .readVoice version text)
   pub voice-back : (version : SguVersion) (ch : ℕ) (v : PlainVoice) → ch < numChannels → FitVoice version v → t .readVoice version (t .voiceText ch v) ≡ voice ch v

@@ -2,15 +2,15 @@
 use mathlib.Core.Path.{_≡_, refl, sym, ap, _∙_}
 use mathlib.Core.Bool.{Bool, true, false, cond, _&&_}
 use mathlib.Core.List.{List}
-use Prim.Native.Nat.{ℕ, zero, suc, _*_, _≤_, max}
+use Prim.Native.Nat.{ℕ, _*_, _≤_}
 use native.Mathlib.Omega.{arith}
 use lib.Dec.{eqb}
 use lib.IntN.{ℤ}
 use lib.ListN.{length}
-use borrow.Author.Tests.{eqb-true, eq-eqb}
+use borrow.Author.Tests.{eq-eqb}
 use Rattle.sizes.specs.Sizes.{queueBuffer, stemsPerFrame}
-use Rattle.num.proofs.Choice.{both, together, never}
-use Rattle.tone.specs.Pcm.{powerFrom, isRamLength}
+use Rattle.num.proofs.Choice.{both, together}
+use Rattle.tone.specs.Pcm.{isRamLength}
 use Rattle.version.specs.declared.SguVersion.{SguVersion}
 use Rattle.registers.specs.Waveforms.{isSqv4}
 use Rattle.stream.specs.Accepted.{acceptsCache}
@@ -20,6 +20,7 @@ use Rattle.voice.specs.declared.Channel.{Channel}
 use Rattle.voices.specs.Core.{channelAt}
 use Rattle.voices.specs.Accepted.{SizedCore, AcceptedCore}
 use Rattle.voices.proofs.Accepting.{accepted-core, core-accepted}
+use Rattle.session_lines.proofs.Heads.{ram-small}
 use Rattle.s3w2.specs.declared.Chip.{Chip}
 use Rattle.s3w2.specs.declared.Answer.the-variants.{Done, StemBuffer}
 use Rattle.s3w2.specs.Refusals.{acceptsChip, refusal, ownRefusal, ramRefusal, queuesRefusal, soundRefusal, clockRefusal}
@@ -52,25 +53,6 @@ stream-longer c n m h e = go (c .stream .valid) refl
 channel-longer : (c : Channel) (version : SguVersion) (n m : ℕ) → n ≤ m → AcceptedChannel c version n → AcceptedChannel c version m
 channel-longer c version n m h a = record { registers = a .registers; pcm = a .pcm; oscillator = a .oscillator; fifo = a .fifo; stream = stream-longer c n m h (a .stream) }
 
--- the largest of k powers of two
-abbrev largestFrom : ℕ → ℕ → ℕ
-largestFrom zero p = 0
-largestFrom (suc k) p = max p (largestFrom k (p * 2))
-
-power-small : (k p n : ℕ) → powerFrom k p n ≡ true → n ≤ largestFrom k p
-power-small zero p n e = never (sym e)
-power-small (suc k) p n e = go (eqb n p) refl (λ h. power-small k (p * 2) n h)
-  where
-    go : (b : Bool) → eqb n p ≡ b → (powerFrom k (p * 2) n ≡ true → n ≤ largestFrom k (p * 2)) → n ≤ max p (largestFrom k (p * 2))
-    go true f rest = omega (arith, eqb-true n p f)
-    go false f rest =
-        let l = rest (sym (ap (λ (b : Bool). cond b true (powerFrom k (p * 2) n)) f) ∙ e) in
-        omega (arith, l)
-
-ram-small : (n : ℕ) → isRamLength n ≡ true → n ≤ 16777216
-unfolding isRamLength
-ram-small n e = power-small 17 256 n e
-
 -- ---- an accepted state is one over a longer RAM too
 longer : (chip : Chip) (n m : ℕ) → n ≤ m → AcceptedCore (chip .core) (chip .version) n → acceptsChip chip m ≡ true
 longer chip n m h a = core-accepted (chip .core) (chip .version) m (record { sized = a .sized; each = λ j l. channel-longer (channelAt (chip .core) j) (chip .version) n m h (a .each j l) })
@@ -87,7 +69,7 @@ module _ (chip : Chip) (ram : List ℕ) (queues : List ℤ) (held : GoodMachine 
   pub accepted-held : AcceptedCore (chip .core) (chip .version) (length ram)
   accepted-held = record { sized = held .sized; each = λ j l. ok-at (chip .version) ram (chip .core) queues (held .good .voices) j l .accepted }
 
-  accepts : (m : ℕ) → length ram ≤ m → acceptsChip chip m ≡ true
+  pub accepts : (m : ℕ) → length ram ≤ m → acceptsChip chip m ≡ true
   accepts m h = longer chip (length ram) m h accepted-held
 
   full : eqb (length queues) queueBuffer ≡ true

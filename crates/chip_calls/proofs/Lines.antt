@@ -5,7 +5,7 @@ use mathlib.Core.List.{List, [], _∷_}
 use Prim.Native.Nat.{ℕ, _<_}
 use native.Mathlib.Omega.{arith}
 use native.Mathlib.Decide.{decLt}
-use lib.Dec.{leb}
+use lib.Dec.{eqb, leb}
 use lib.IntN.{ℤ}
 use lib.ListN.{length}
 use lib.Seq.{sets}
@@ -26,12 +26,12 @@ use Rattle.voices.specs.declared.Core.{Core}
 use Rattle.voices.specs.Own as own
 use Rattle.s3w2.specs.declared.Chip.{Chip}
 use Rattle.session.specs.declared.LineAnswer.{LineAnswer}
-use Rattle.session.specs.declared.LineAnswer.the-variants.{NotAccepted, QueueBuffer}
+use Rattle.session.specs.declared.LineAnswer.the-variants.{RamLength, NotAccepted, QueueBuffer}
 use Rattle.session.specs.declared.LineCalled.{LineCalled}
 use Rattle.session.specs.Answers as answers
-use Rattle.session.specs.Heads.{writeHeadAnswer, writeHeadText, headCalled, readHeadCalled}
+use Rattle.session.specs.Heads.{writeHeadAnswer, writeHeadText, versionCalled, headCalled, readHeadCalled}
 use Rattle.session.specs.Voices.{lineOfVoice, writeVoiceAnswer, writeVoiceText, loadedCore, loadedQueues, voiceCalled, voiceQueues, readVoiceCalled, readVoiceQueues}
-use Rattle.session.proofs.Lines.{goes-on}
+use Rattle.session.proofs.Lines.{goes-on, goes-over}
 use Rattle.session.proofs.Loaded.{loaded-changed, queue-own, queue-others, length-loaded}
 use Rattle.slots.specs.Slots.{Slot, plainOf, slotLoaded}
 use Rattle.slots.specs.Models.{slots, SlotChip}
@@ -50,7 +50,7 @@ use Rattle.session_texts.specs.Session.{session, plainVoiceOf, plainText, headR
 use Rattle.session_texts.proofs.Written.{text-plain}
 use Rattle.session_texts.proofs.Read.{loaded-told, session-is-ok}
 use Rattle.chip_calls.specs.Ties.{slotChip, GoodMachine, wroteBy, readBy, Tied}
-use Rattle.chip_calls.proofs.Accepting.{state-accepted}
+use Rattle.chip_calls.proofs.Accepting.{accepts, state-accepted}
 use Rattle.chip_calls.proofs.Calls.{made, tied-version}
 
 no-line : (ch : ℕ) (c : Channel) (wavetable : List ℕ) (q : List ℤ) → 7 < ch → voiceText ch c wavetable q ≡ []
@@ -71,8 +71,8 @@ module _ (chip : Chip) (ram : List ℕ) (queues : List ℤ) (held : GoodMachine 
   ran c = run slots session w c
 
   -- ---- what a call asks for is there
-  with-state : {A : Type 0} (done refused : A) → answers.withState chip done refused ≡ done
-  with-state done refused = ap (λ (b : Bool). cond b done refused) (state-accepted chip ram queues held)
+  with-ram : {A : Type 0} (done notAccepted notLent : A) → answers.withLentRam chip (length ram) done notAccepted notLent ≡ done
+  with-ram done notAccepted notLent = sym (goes-over chip (length ram) done notAccepted notLent (held .allowed) (accepts chip ram queues held (length ram) (omega arith)))
 
   with-queues : {A : Type 0} (done notAccepted notLent : A) → answers.withLentQueues chip queues done notAccepted notLent ≡ done
   with-queues done notAccepted notLent = sym (goes-on chip queues done notAccepted notLent (held .long) (state-accepted chip ram queues held))
@@ -89,9 +89,9 @@ module _ (chip : Chip) (ram : List ℕ) (queues : List ℤ) (held : GoodMachine 
   wrote-as : (a b : LineAnswer) (x y : List ℕ) (z : Outcome SlotChip list.CallAnswer) → a ≡ b → x ≡ y → Tied (wroteBy chip ram queues b y) z → Tied (wroteBy chip ram queues a x) z
   wrote-as a b x y z e f t = subst (λ (p : List ℕ). Tied (wroteBy chip ram queues a p) z) (sym f) (subst (λ (c : LineAnswer). Tied (wroteBy chip ram queues c y) z) (sym e) t)
 
-  pub tied-write-head : (out : List ℕ) → Tied (wroteBy chip ram queues (writeHeadAnswer chip out) (writeHeadText chip out)) (ran (list.writeHead out))
+  pub tied-write-head : (out : List ℕ) → Tied (wroteBy chip ram queues (writeHeadAnswer chip (length ram) out) (writeHeadText chip (length ram) out)) (ran (list.writeHead out))
   unfolding writeHeadAnswer writeHeadText run
-  tied-write-head out = wrote-as _ _ _ _ _ (with-state _ NotAccepted) (with-state _ out) (writes (headText version) out)
+  tied-write-head out = wrote-as _ _ _ _ _ (with-ram _ NotAccepted RamLength) (with-ram _ out out) (writes (headText version (length ram)) out)
 
   -- the line of a voice is that of its session's fields; one above 7 has none
   pub line-same : (ch : ℕ) → lineOfVoice chip queues ch ≡ plainText ch (chips.fieldsAt slots w ch)
@@ -113,14 +113,23 @@ module _ (chip : Chip) (ram : List ℕ) (queues : List ℤ) (held : GoodMachine 
   read-as : (a b : LineCalled) (p q : List ℤ) (z : Outcome SlotChip list.CallAnswer) → a ≡ b → p ≡ q → Tied (readBy b ram q) z → Tied (readBy a ram p) z
   read-as a b p q z e f t = subst (λ (l : List ℤ). Tied (readBy a ram l) z) (sym f) (subst (λ (c : LineCalled). Tied (readBy c ram q) z) (sym e) t)
 
-  head-told : (r : HeadLine) → Tied (readBy (headCalled chip r) ram queues) (list.headTold slots session w (headRead r))
+  either : (b : Bool) (x y : LineCalled) (z u : Outcome SlotChip list.CallAnswer) → Tied (readBy x ram queues) z → Tied (readBy y ram queues) u → Tied (readBy (cond b x y) ram queues) (cond b z u)
+  either true x y z u s t = s
+  either false x y z u s t = t
+
+  set-told : (other : SguVersion) → Tied (readBy (versionCalled chip other) ram queues) (list.gives slots session (chips.setVersion slots other w) (list.replies list.done))
   unfolding run
-  head-told (heads.Version other) = let t = tied-version session chip ram queues held other in record { next = t .next; answer = refl; held = t .held }
+  set-told other = let t = tied-version session chip ram queues held other in record { next = t .next; answer = refl; held = t .held }
+
+  head-told : (r : HeadLine) → Tied (readBy (headCalled chip (length ram) r) ram queues) (list.headTold slots session w (headRead r))
+  head-told (heads.Version other) = set-told other
+  head-told (heads.Sized other size) = either (eqb size (length ram)) _ _ _ _ (set-told other) (record { next = refl; answer = refl; held = held })
   head-told (heads.Malformed field) = record { next = refl; answer = refl; held = held }
 
-  pub tied-read-head : (text : List ℕ) → Tied (readBy (readHeadCalled chip text) ram queues) (ran (list.readHead text))
+  pub tied-read-head : (text : List ℕ) → Tied (readBy (readHeadCalled chip (length ram) text) ram queues) (ran (list.readHead text))
   unfolding readHeadCalled run
-  tied-read-head text = read-as _ _ queues queues _ (with-state _ (answers.lineAnswered chip NotAccepted)) refl (head-told (readHead text))
+  tied-read-head text =
+      read-as _ _ queues queues _ (with-ram _ (answers.lineAnswered chip NotAccepted) (answers.lineAnswered chip RamLength)) refl (head-told (readHead text))
 
   -- the voice that a line names
   module _ (f : ℕ → ℕ) (here : voiceOf f .number < 8) (fit : FitVoice version (plainVoiceOf (voiceOf f))) where

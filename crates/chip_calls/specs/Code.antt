@@ -55,8 +55,9 @@ code m (clockMixedIntoI32 left right) =
     sounded (mixedCalled wrapping (m .chip) (m .ram) (m .queues) left right) (m .ram) (m .queues)
     (mixedLeft wrapping (m .chip) (m .ram) (m .queues) left right ∷ mixedRight wrapping (m .chip) (m .ram) (m .queues) left right ∷ [])
     (mixedCallValues (m .chip) (m .ram) (m .queues) wrapping left right)
-code m (writeHead out) = wroteBy (m .chip) (m .ram) (m .queues) (writeHeadAnswer (m .chip) out) (writeHeadText (m .chip) out)
-code m (readHead text) = readBy (readHeadCalled (m .chip) text) (m .ram) (m .queues)
+code m (writeHead out) =
+    wroteBy (m .chip) (m .ram) (m .queues) (writeHeadAnswer (m .chip) (length (m .ram)) out) (writeHeadText (m .chip) (length (m .ram)) out)
+code m (readHead text) = readBy (readHeadCalled (m .chip) (length (m .ram)) text) (m .ram) (m .queues)
 code m (writeVoice ch out) = wroteBy (m .chip) (m .ram) (m .queues) (writeVoiceAnswer (m .chip) (m .queues) ch out) (writeVoiceText (m .chip) (m .queues) ch out)
 code m (readVoice text) = readBy (readVoiceCalled (m .chip) (m .queues) text) (m .ram) (readVoiceQueues (m .chip) (m .queues) text)
 

@@ -86,10 +86,12 @@ onlyTells chip ram queues answer = left chip ram queues (list.replies (replyOf a
 abbrev pub lineReply : LineAnswer → Reply
 lineReply lines.Done = done
 lineReply (lines.Written n) = count n
+lineReply lines.RamLength = refused (numbersOf lines.RamLength)
 lineReply lines.QueueBuffer = refused (numbersOf lines.QueueBuffer)
 lineReply lines.NotAccepted = refused (numbersOf lines.NotAccepted)
 lineReply lines.TextBuffer = refused (numbersOf lines.TextBuffer)
 lineReply (lines.Malformed field) = refused (numbersOf (lines.Malformed field))
+lineReply lines.OtherLength = refused (numbersOf lines.OtherLength)
 
 -- one written to a lent text
 abbrev pub wroteBy : Chip → List ℕ → List ℤ → LineAnswer → List ℕ → Outcome Machine list.CallAnswer

@@ -11,7 +11,7 @@ pub fn write_head(chip: Chip, ram: &[u8], queues: &[i16], out: &mut [u8]) -> Lin
     ensures code { λ r. ⌜ AsWritten (machine chip (now (ram .entry)) (now (queues .entry))) (list.writeHead (now (out .entry))) r
         (now (out .exit)) ⌝ }
 {
-    session::write_head(chip, out)
+    session::write_head(chip, ram, out)
 }
 
 // As `session::read_head`.
@@ -19,7 +19,7 @@ pub fn read_head(chip: Chip, ram: &[u8], queues: &[i16], text: &[u8]) -> LineCal
     ensures code { λ r. ⌜ AsRead (machine chip (now (ram .entry)) (now (queues .entry))) (list.readHead (now (text .entry))) r (now (ram .entry))
         (now (queues .entry)) ⌝ }
 {
-    session::read_head(chip, text)
+    session::read_head(chip, ram, text)
 }
 
 // As `session::write_voice`.

@@ -35,11 +35,12 @@ fn take(
     behind: usize,
     filled: usize,
     text: &mut [u8],
+    ram: &[u8],
     queues: &mut [i16],
 ) -> Load {
     let player = load.player;
     let k = num::least(load.k, 8);
-    let taken = log_state::take_line(player, queues, k, line);
+    let taken = log_state::take_line(player, ram, queues, k, line);
     let after = taken.player;
     let answer = taken.answer;
     let LineAnswer::Done = answer else {
@@ -57,7 +58,14 @@ fn take(
 }
 
 // Goes on with more input behind the bytes before `end`; where there is none, or no room for any, they are the line.
-fn extend(load: Load, end: usize, input: &mut [u8], text: &mut [u8], queues: &mut [i16]) -> Load {
+fn extend(
+    load: Load,
+    end: usize,
+    input: &mut [u8],
+    text: &mut [u8],
+    ram: &[u8],
+    queues: &mut [i16],
+) -> Load {
     let player = load.player;
     let kept = program::keep(&mut *input, load.from, end);
     let read = read_behind(Program::Load, &mut *input, kept);
@@ -71,14 +79,14 @@ fn extend(load: Load, end: usize, input: &mut [u8], text: &mut [u8], queues: &mu
         },
         Input::End => {
             let line = num::part(input, 0, kept);
-            take(load, line, kept, kept, text, queues)
+            take(load, line, kept, kept, text, ram, queues)
         }
         Input::Failed => refused(player),
     }
 }
 
 // Looks for line k.
-fn look(load: Load, input: &mut [u8], text: &mut [u8], queues: &mut [i16]) -> Load {
+fn look(load: Load, input: &mut [u8], text: &mut [u8], ram: &[u8], queues: &mut [i16]) -> Load {
     let player = load.player;
     let from = load.from;
     let filled = load.filled;
@@ -86,7 +94,7 @@ fn look(load: Load, input: &mut [u8], text: &mut [u8], queues: &mut [i16]) -> Lo
     match found {
         Found::Line(behind) => {
             let line = num::part(input, from, behind);
-            take(load, line, behind, filled, text, queues)
+            take(load, line, behind, filled, text, ram, queues)
         }
         Found::Sound(behind) => Load {
             player,
@@ -95,17 +103,23 @@ fn look(load: Load, input: &mut [u8], text: &mut [u8], queues: &mut [i16]) -> Lo
             k: load.k,
             going: true,
         },
-        Found::Open(end) => extend(load, end, input, text, queues),
+        Found::Open(end) => extend(load, end, input, text, ram, queues),
     }
 }
 
 // Reads the nine lines.
-fn load_lines(first: Load, input: &mut [u8], text: &mut [u8], queues: &mut [i16]) -> Load {
+fn load_lines(
+    first: Load,
+    input: &mut [u8],
+    text: &mut [u8],
+    ram: &[u8],
+    queues: &mut [i16],
+) -> Load {
     let mut load = first;
     let mut turns: u64 = 0xffff_ffff_ffff_ffff;
     while 0 < turns {
         if load.k < 9 {
-            load = look(load, &mut *input, &mut *text, &mut *queues);
+            load = look(load, &mut *input, &mut *text, ram, &mut *queues);
             turns -= 1;
         } else {
             turns = 0;
@@ -172,7 +186,7 @@ pub(crate) fn load_state(
         k: 0,
         going: true,
     };
-    let loaded = load_lines(first, &mut *input, &mut *text, queues);
+    let loaded = load_lines(first, &mut *input, &mut *text, &*ram, queues);
     if loaded.going {
         return load_ram(loaded, input, text, ram);
     }

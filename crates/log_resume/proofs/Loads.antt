@@ -4,7 +4,7 @@ use mathlib.Core.List.{List, _++_, map, append-assoc}
 use Prim.Native.Nat.{ℕ, zero, suc, _+_, _≤_, _<_}
 use native.Mathlib.Omega.{arith}
 use lib.IntN.{ℤ, pos}
-use lib.ListN.{replicate}
+use lib.ListN.{length, replicate}
 use Rattle.sizes.specs.Sizes.{queueBuffer}
 use Rattle.version.specs.declared.SguVersion.{SguVersion}
 use Rattle.session_lines.specs.Lines.{ReadVoice, voice, malformed, readVoice}
@@ -52,6 +52,9 @@ version-of c (voice x) = refl
 version-of c (malformed field) = refl
 
 module _ (w : World) (h : HeldMachine (machineOf w)) where
+  abbrev size : ℕ
+  size = length (w .ram)
+
   abbrev chip : Chip
   chip = w .player .chip
 
@@ -95,39 +98,39 @@ module _ (w : World) (h : HeldMachine (machineOf w)) where
   ended p m more = load.loaded (withChip p (m .chip)) (m .queues) more
 
   voices : (n i : ℕ) (g : ℕ → List ℕ) → ((j k : ℕ) → j < n → k ≡ i + j → g j ≡ line k) → i + n ≤ 8 → (p : Player) (q : List ℤ) → GoodMachine (p .chip) (w .ram) q → p .chip .version ≡ version → (more : List ℕ)
-      → readLines n (suc i) p q (stateLines chip (w .queues) n (suc i) ++ more) ≡ ended p (after code (at p q) (map list.readVoice (row n g))) more
+      → (ram : ℕ) → readLines n (suc i) p ram q (stateLines chip size (w .queues) n (suc i) ++ more) ≡ ended p (after code (at p q) (map list.readVoice (row n g))) more
   unfolding readLines code
-  voices zero i g f b p q k e more = refl
-  voices (suc n) i g f b p q k e more =
+  voices zero i g f b p q k e more ram = refl
+  voices (suc n) i g f b p q k e more ram =
       let here : i < 8 = omega arith in
-      let l : List ℕ = stateLine chip (w .queues) (suc i) in
-      let is : l ≡ line i = voice-line chip (w .queues) i in
-      let rest : List ℕ = stateLines chip (w .queues) n (suc (suc i)) in
-      let done : takeLine p q (suc i) l .answer ≡ Done = ap (λ (t : Taken). t .answer) (take-voice p q l i) ∙ ap (λ (t : List ℕ). readVoiceCalled (p .chip) q t .answer) is ∙ is-done (p .chip) q k e i here in
-      let player : takeLine p q (suc i) l .player ≡ withChip p (readVoiceCalled (p .chip) q (line i) .chip) = ap (λ (t : Taken). t .player) (take-voice p q l i) ∙ ap (λ (t : List ℕ). withChip p (readVoiceCalled (p .chip) q t .chip)) is in
-      let queues : takeLineQueues p q (suc i) l ≡ readVoiceQueues (p .chip) q (line i) = take-voice-queues p q l i ∙ ap (readVoiceQueues (p .chip) q) is in
-      ap (readLines (suc n) (suc i) p q) (append-assoc l rest more)
-      ∙ read-next l (rest ++ more) (state-ended chip (w .queues) (suc i) (omega arith)) n (suc i) p q done
-      ∙ ap₂ (λ (x : Player) (y : List ℤ). readLines n (suc (suc i)) x y (rest ++ more)) player queues
-      ∙ voices n (suc i) (λ j. g (suc j)) (λ j m o r. f (suc j) m (omega arith) (omega (arith, r))) (omega arith) (withChip p (readVoiceCalled (p .chip) q (line i) .chip)) (readVoiceQueues (p .chip) q (line i)) (held (p .chip) q k e i here) (still (p .chip) q k e i here) more
+      let l : List ℕ = stateLine chip size (w .queues) (suc i) in
+      let is : l ≡ line i = voice-line chip size (w .queues) i in
+      let rest : List ℕ = stateLines chip size (w .queues) n (suc (suc i)) in
+      let done : takeLine p ram q (suc i) l .answer ≡ Done = ap (λ (t : Taken). t .answer) (take-voice p ram q l i) ∙ ap (λ (t : List ℕ). readVoiceCalled (p .chip) q t .answer) is ∙ is-done (p .chip) q k e i here in
+      let player : takeLine p ram q (suc i) l .player ≡ withChip p (readVoiceCalled (p .chip) q (line i) .chip) = ap (λ (t : Taken). t .player) (take-voice p ram q l i) ∙ ap (λ (t : List ℕ). withChip p (readVoiceCalled (p .chip) q t .chip)) is in
+      let queues : takeLineQueues p q (suc i) l ≡ readVoiceQueues (p .chip) q (line i) = take-voice-queues p ram q l i ∙ ap (readVoiceQueues (p .chip) q) is in
+      ap (readLines (suc n) (suc i) p ram q) (append-assoc l rest more)
+      ∙ read-next l (rest ++ more) (state-ended chip size (w .queues) (suc i) (omega arith)) n (suc i) p ram q done
+      ∙ ap₂ (λ (x : Player) (y : List ℤ). readLines n (suc (suc i)) x ram y (rest ++ more)) player queues
+      ∙ voices n (suc i) (λ j. g (suc j)) (λ j m o r. f (suc j) m (omega arith) (omega (arith, r))) (omega arith) (withChip p (readVoiceCalled (p .chip) q (line i) .chip)) (readVoiceQueues (p .chip) q (line i)) (held (p .chip) q k e i here) (still (p .chip) q k e i here) more ram
       ∙ ap (λ (t : List ℕ). ended p (after code (code (at p q) (list.readVoice t) .next) (map list.readVoice (row n (λ j. g (suc j))))) more) (sym (f 0 i (omega arith) (omega arith)))
 
   -- ---- THE STATE READ: a fresh player that reads it, and whatever follows it, goes on as `loaded` does, with the RAM's bytes behind the lines
-  pub loads : (more : List ℕ) → readLines 9 0 (freshPlayer 65536) (replicate queueBuffer (pos 0)) (stateText w ++ more) ≡ load.loaded (loaded w .player) (loaded w .queues) (w .ram ++ more)
+  pub loads : (more : List ℕ) → readLines 9 0 (freshPlayer 65536) size (replicate queueBuffer (pos 0)) (stateText w ++ more) ≡ load.loaded (loaded w .player) (loaded w .queues) (w .ram ++ more)
   loads more =
       let m = machineOf w in
       let second : Machine = fresh (w .ram) in
       let s : Second m second = fresh-second m h in
       let p = freshPlayer 65536 in
       let q : List ℤ = replicate queueBuffer (pos 0) in
-      let l : List ℕ = stateLine chip (w .queues) 0 in
-      let is = head-line chip (w .queues) in
-      let rest : List ℕ = stateLines chip (w .queues) 8 1 in
+      let l : List ℕ = stateLine chip size (w .queues) 0 in
+      let is = head-line chip size (w .queues) in
+      let rest : List ℕ = stateLines chip size (w .queues) 8 1 in
       let called = head-called m second h s in
-      let done : takeLine p q 0 l .answer ≡ Done = ap (λ (t : Taken). t .answer) (take-head p q l) ∙ ap (λ (t : List ℕ). readHeadCalled (p .chip) t .answer) is ∙ ap (λ (x : LineCalled). x .answer) called in
-      let player : takeLine p q 0 l .player ≡ withChip p (headedChip m second h s) = ap (λ (t : Taken). t .player) (take-head p q l) ∙ ap (λ (t : List ℕ). withChip p (readHeadCalled (p .chip) t .chip)) is ∙ ap (λ (x : LineCalled). withChip p (x .chip)) called in
-      ap (readLines 9 0 p q) (append-assoc (l ++ rest) (w .ram) more ∙ append-assoc l rest (w .ram ++ more))
-      ∙ read-next l (rest ++ (w .ram ++ more)) (state-ended chip (w .queues) 0 (omega arith)) 8 0 p q done
-      ∙ ap₂ (λ (x : Player) (y : List ℤ). readLines 8 1 x y (rest ++ (w .ram ++ more))) player (take-head-queues p q l)
-      ∙ voices 8 0 line (λ j k o r. ap line (omega (arith, r))) (omega arith) (withChip p (headedChip m second h s)) q (headed-held m second h s) refl (w .ram ++ more)
+      let done : takeLine p size q 0 l .answer ≡ Done = ap (λ (t : Taken). t .answer) (take-head p size q l) ∙ ap (λ (t : List ℕ). readHeadCalled (p .chip) size t .answer) is ∙ ap (λ (x : LineCalled). x .answer) called in
+      let player : takeLine p size q 0 l .player ≡ withChip p (headedChip m second h s) = ap (λ (t : Taken). t .player) (take-head p size q l) ∙ ap (λ (t : List ℕ). withChip p (readHeadCalled (p .chip) size t .chip)) is ∙ ap (λ (x : LineCalled). withChip p (x .chip)) called in
+      ap (readLines 9 0 p size q) (append-assoc (l ++ rest) (w .ram) more ∙ append-assoc l rest (w .ram ++ more))
+      ∙ read-next l (rest ++ (w .ram ++ more)) (state-ended chip size (w .queues) 0 (omega arith)) 8 0 p size q done
+      ∙ ap₂ (λ (x : Player) (y : List ℤ). readLines 8 1 x size y (rest ++ (w .ram ++ more))) player (take-head-queues p size q l)
+      ∙ voices 8 0 line (λ j k o r. ap line (omega (arith, r))) (omega arith) (withChip p (headedChip m second h s)) q (headed-held m second h s) refl (w .ram ++ more) size
       ∙ ap (λ (x : Machine). load.loaded (record { chip = x .chip; left = 0; right = 0 }) (x .queues) (w .ram ++ more)) (sym (read-on m second h s))

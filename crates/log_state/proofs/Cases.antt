@@ -13,20 +13,20 @@ use Rattle.log_player.specs.declared.Player.{Player}
 use Rattle.log_state.specs.declared.Taken.{Taken}
 use Rattle.log_state.specs.Lines.{putLineAnswer, putLineText, takenBy, takeLine, takeLineQueues}
 
-module _ (chip : Chip) (queues : List ℤ) (k : ℕ) (out text : List ℕ) (answer : LineAnswer) where
-  pub head-written : k ≡ 0 → (answer ≡ writeHeadAnswer chip out) × (text ≡ writeHeadText chip out) → (answer ≡ putLineAnswer chip queues k out) × (text ≡ putLineText chip queues k out)
+module _ (chip : Chip) (ram : ℕ) (queues : List ℤ) (k : ℕ) (out text : List ℕ) (answer : LineAnswer) where
+  pub head-written : k ≡ 0 → (answer ≡ writeHeadAnswer chip ram out) × (text ≡ writeHeadText chip ram out) → (answer ≡ putLineAnswer chip ram queues k out) × (text ≡ putLineText chip ram queues k out)
   unfolding putLineAnswer putLineText
   head-written e h = rw (eq-eqb k 0 e) h
 
-  pub voice-written : (k ≡ 0 → ⊥) → (answer ≡ writeVoiceAnswer chip queues (k - 1) out) × (text ≡ writeVoiceText chip queues (k - 1) out) → (answer ≡ putLineAnswer chip queues k out) × (text ≡ putLineText chip queues k out)
+  pub voice-written : (k ≡ 0 → ⊥) → (answer ≡ writeVoiceAnswer chip queues (k - 1) out) × (text ≡ writeVoiceText chip queues (k - 1) out) → (answer ≡ putLineAnswer chip ram queues k out) × (text ≡ putLineText chip ram queues k out)
   unfolding putLineAnswer putLineText
   voice-written e h = rw (ne-eqb k 0 e) h
 
-module _ (p : Player) (queues : List ℤ) (k : ℕ) (text : List ℕ) (r : Taken) (called : LineCalled) where
-  pub head-taken : k ≡ 0 → called ≡ readHeadCalled (p .chip) text → r ≡ takenBy p called → (r ≡ takeLine p queues k text) × (queues ≡ takeLineQueues p queues k text)
+module _ (p : Player) (ram : ℕ) (queues : List ℤ) (k : ℕ) (text : List ℕ) (r : Taken) (called : LineCalled) where
+  pub head-taken : k ≡ 0 → called ≡ readHeadCalled (p .chip) ram text → r ≡ takenBy p called → (r ≡ takeLine p ram queues k text) × (queues ≡ takeLineQueues p queues k text)
   unfolding takeLine takeLineQueues
   head-taken e h s = rw (eq-eqb k 0 e) (s ∙ ap (λ (x : LineCalled). takenBy p x) h, refl)
 
-  pub voice-taken : (after : List ℤ) → (k ≡ 0 → ⊥) → (called ≡ readVoiceCalled (p .chip) queues text) × (after ≡ readVoiceQueues (p .chip) queues text) → r ≡ takenBy p called → (r ≡ takeLine p queues k text) × (after ≡ takeLineQueues p queues k text)
+  pub voice-taken : (after : List ℤ) → (k ≡ 0 → ⊥) → (called ≡ readVoiceCalled (p .chip) queues text) × (after ≡ readVoiceQueues (p .chip) queues text) → r ≡ takenBy p called → (r ≡ takeLine p ram queues k text) × (after ≡ takeLineQueues p queues k text)
   unfolding takeLine takeLineQueues
   voice-taken after e h s = rw (ne-eqb k 0 e) (s ∙ ap (λ (x : LineCalled). takenBy p x) (h .0), h .1)

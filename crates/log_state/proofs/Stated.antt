@@ -8,19 +8,22 @@ use lib.Dec.{eqb, ltb}
 use lib.IntN.{ℤ, pos, negsuc}
 use lib.ListN.{length, take, drop, getD, length-append}
 use lib.Seq.{sets, take-append-seam, drop-append-seam}
-use borrow.Author.Tests.{eq-eqb, ne-eqb, le-leb, lt-leb}
+use borrow.Author.Tests.{ne-eqb, le-leb, lt-leb}
 use Rattle.sizes.specs.Sizes.{queueBuffer}
 use Rattle.decimal.specs.Written.{digitsIn, decimal, render}
 use Rattle.line_fields.specs.Table.{isSample, sampleOfNumber}
 use Rattle.line_fields.specs.Text.{fieldText, partText, partsText, lineText, writtenOf, putOf}
+use Rattle.tone.specs.Pcm.{isRamLength}
 use Rattle.version.specs.declared.SguVersion.{SguVersion}
 use Rattle.version.specs.Versions.{versionNumber}
 use Rattle.session_lines.specs.Head.{headText}
 use Rattle.session_lines.specs.Lines.{voiceText}
+use Rattle.s3w2.specs.Refusals.{acceptsChip}
 use Rattle.s3w2.specs.declared.Chip.{Chip}
 use Rattle.session.specs.declared.LineAnswer.{LineAnswer}
-use Rattle.session.specs.declared.LineAnswer.the-variants.{Done, Written, QueueBuffer, NotAccepted}
-use Rattle.session.specs.Answers.{wrote, stateAccepted, queuesLent}
+use Rattle.session.specs.declared.LineAnswer.the-variants.{Done, Written, RamLength, QueueBuffer, NotAccepted}
+use Rattle.session.specs.Answers.{wrote, stateAccepted, withLentQueues, withLentRam}
+use Rattle.session.proofs.Lines.{goes-on, goes-over}
 use Rattle.session.specs.Heads.{writeHeadAnswer, writeHeadText, readHeadCalled}
 use Rattle.session.specs.Voices.{lineOfVoice, writeVoiceAnswer, writeVoiceText, readVoiceCalled, readVoiceQueues}
 use Rattle.log_player.specs.declared.Player.{Player}
@@ -31,20 +34,20 @@ use Rattle.log_state.specs.Loads.{frontLine, behindLine, goesOn, readLin
 use Rattle.log_state.specs.Finding.{soundLine, foundAt}
 
 -- ---- a line of an accepted state is written where there is room for it
-module _ (chip : Chip) (queues : List ℤ) (a : stateAccepted chip ≡ true) (q : length queues ≡ queueBuffer) where
+module _ (chip : Chip) (ram : ℕ) (queues : List ℤ) (r : isRamLength ram ≡ true) (l : acceptsChip chip ram ≡ true) (a : stateAccepted chip ≡ true) (q : length queues ≡ queueBuffer) where
   written : (out text : List ℕ) → length text ≤ length out → (wrote (writtenOf out text) ≡ Written (length text)) × (putOf out text ≡ sets out 0 text)
   written out text h = rw (le-leb (length text) (length out) h) (refl, refl)
 
   by-kind : (head : Bool) (out x y : List ℕ) → length (cond head x y) ≤ length out
-      → (cond head (cond (stateAccepted chip) (wrote (writtenOf out x)) NotAccepted) (cond (queuesLent queues) (cond (stateAccepted chip) (wrote (writtenOf out y)) NotAccepted) QueueBuffer) ≡ Written (length (cond head x y)))
-      × (cond head (cond (stateAccepted chip) (putOf out x) out) (cond (queuesLent queues) (cond (stateAccepted chip) (putOf out y) out) out) ≡ sets out 0 (cond head x y))
-  by-kind true out x y h = rw a (written out x h)
-  by-kind false out x y h = rw (eq-eqb (length queues) queueBuffer q, a) (written out y h)
+      → (cond head (withLentRam chip ram (wrote (writtenOf out x)) NotAccepted RamLength) (withLentQueues chip queues (wrote (writtenOf out y)) NotAccepted QueueBuffer) ≡ Written (length (cond head x y)))
+      × (cond head (withLentRam chip ram (putOf out x) out out) (withLentQueues chip queues (putOf out y) out out) ≡ sets out 0 (cond head x y))
+  by-kind true out x y h = (sym (goes-over chip ram _ _ _ r l) ∙ written out x h .0, sym (goes-over chip ram _ _ _ r l) ∙ written out x h .1)
+  by-kind false out x y h = (sym (goes-on chip queues _ _ _ q a) ∙ written out y h .0, sym (goes-on chip queues _ _ _ q a) ∙ written out y h .1)
 
-  pub line-put : (k : ℕ) (out : List ℕ) → length (stateLine chip queues k) ≤ length out
-      → (putLineAnswer chip queues k out ≡ Written (length (stateLine chip queues k))) × (putLineText chip queues k out ≡ sets out 0 (stateLine chip queues k))
+  pub line-put : (k : ℕ) (out : List ℕ) → length (stateLine chip ram queues k) ≤ length out
+      → (putLineAnswer chip ram queues k out ≡ Written (length (stateLine chip ram queues k))) × (putLineText chip ram queues k out ≡ sets out 0 (stateLine chip ram queues k))
   unfolding stateLine putLineAnswer putLineText writeHeadAnswer writeHeadText writeVoiceAnswer writeVoiceText
-  line-put k out h = by-kind (eqb k 0) out (headText (chip .version)) (lineOfVoice chip queues (k - 1)) h
+  line-put k out h = by-kind (eqb k 0) out (headText (chip .version) ram) (lineOfVoice chip queues (k - 1)) h
 
 -- ---- texts without byte 10
 abbrev pub Goes : List ℕ → Type 0
@@ -98,18 +101,21 @@ line-ended : (ns : List ℕ) → Ended (lineText ns)
 unfolding lineText
 line-ended ns = record { text = partsText 0 ns; whole = refl; goes = parts-go 0 ns }
 
-head-ended : (version : SguVersion) → Ended (headText version)
+head-ended : (version : SguVersion) (ram : ℕ) → Ended (headText version ram)
 unfolding headText
-head-ended version = record {
-  text = 83 ∷ 51 ∷ 87 ∷ 50 ∷ 44 ∷ (48 + versionNumber version) ∷ [];
-  whole = refl;
-  goes =
-      both (83 ∷ []) (51 ∷ 87 ∷ 50 ∷ 44 ∷ (48 + versionNumber version) ∷ []) (one 83 (omega arith))
-      (both (51 ∷ []) (87 ∷ 50 ∷ 44 ∷ (48 + versionNumber version) ∷ []) (one 51 (omega arith))
-      (both (87 ∷ []) (50 ∷ 44 ∷ (48 + versionNumber version) ∷ []) (one 87 (omega arith))
-      (both (50 ∷ []) (44 ∷ (48 + versionNumber version) ∷ []) (one 50 (omega arith))
-      (both (44 ∷ []) ((48 + versionNumber version) ∷ []) (one 44 (omega arith)) (one (48 + versionNumber version) (omega arith))))));
-}
+head-ended version ram =
+    let d : ℕ = 48 + versionNumber version in
+    record {
+      text = 83 ∷ 51 ∷ 87 ∷ 50 ∷ 44 ∷ d ∷ 44 ∷ decimal ram;
+      whole = refl;
+      goes =
+          both (83 ∷ []) (51 ∷ 87 ∷ 50 ∷ 44 ∷ d ∷ 44 ∷ decimal ram) (one 83 (omega arith))
+          (both (51 ∷ []) (87 ∷ 50 ∷ 44 ∷ d ∷ 44 ∷ decimal ram) (one 51 (omega arith))
+          (both (87 ∷ []) (50 ∷ 44 ∷ d ∷ 44 ∷ decimal ram) (one 87 (omega arith))
+          (both (50 ∷ []) (44 ∷ d ∷ 44 ∷ decimal ram) (one 50 (omega arith))
+          (both (44 ∷ []) (d ∷ 44 ∷ decimal ram) (one 44 (omega arith))
+          (both (d ∷ []) (44 ∷ decimal ram) (one d (omega arith)) (both (44 ∷ []) (decimal ram) (one 44 (omega arith)) (decimal-goes ram)))))));
+    }
 
 voice-ended : (chip : Chip) (queues : List ℤ) (ch : ℕ) → ch ≤ 7 → Ended (lineOfVoice chip queues ch)
 unfolding lineOfVoice voiceText
@@ -138,12 +144,12 @@ module _ (line rest : List ℕ) (e : Ended line) where
   behind-is = ap (λ (n : ℕ). drop n (line ++ rest)) behind ∙ drop-append-seam line rest
 
   -- and one more line is read
-  pub read-next : (n k : ℕ) (p : Player) (queues : List ℤ) → takeLine p queues k line .answer ≡ Done
-      → readLines (suc n) k p queues (line ++ rest) ≡ readLines n (suc k) (takeLine p queues k line .player) (takeLineQueues p queues k line) rest
+  pub read-next : (n k : ℕ) (p : Player) (ram : ℕ) (queues : List ℤ) → takeLine p ram queues k line .answer ≡ Done
+      → readLines (suc n) k p ram queues (line ++ rest) ≡ readLines n (suc k) (takeLine p ram queues k line .player) ram (takeLineQueues p queues k line) rest
   unfolding readLines
-  read-next n k p queues d =
-      ap₂ (λ (x y : List ℕ). goesOn (takeLine p queues k x .answer) (readLines n (suc k) (takeLine p queues k x .player) (takeLineQueues p queues k x) y)) front-is behind-is
-      ∙ ap (λ (a : LineAnswer). goesOn a (readLines n (suc k) (takeLine p queues k line .player) (takeLineQueues p queues k line) rest)) d
+  read-next n k p ram queues d =
+      ap₂ (λ (x y : List ℕ). goesOn (takeLine p ram queues k x .answer) (readLines n (suc k) (takeLine p ram queues k x .player) ram (takeLineQueues p queues k x) y)) front-is behind-is
+      ∙ ap (λ (a : LineAnswer). goesOn a (readLines n (suc k) (takeLine p ram queues k line .player) ram (takeLineQueues p queues k line) rest)) d
 
   found : (at k : ℕ) → soundLine (getD (line ++ rest) 0 0) k ≡ false → foundAt (line ++ rest) at k ≡ Line (at + length line)
   unfolding foundAt
@@ -151,29 +157,29 @@ module _ (line rest : List ℕ) (e : Ended line) where
       rw (first-is, lt-leb (length (line ++ rest)) (length (e .text)) (omega (arith, length-append line rest, size)), s)
       (ap Line (omega (arith, size)))
 
-module _ (chip : Chip) (queues : List ℤ) (k : ℕ) where
-  pub state-ended : k ≤ 8 → Ended (stateLine chip queues k)
+module _ (chip : Chip) (ram : ℕ) (queues : List ℤ) (k : ℕ) where
+  pub state-ended : k ≤ 8 → Ended (stateLine chip ram queues k)
   unfolding stateLine
   state-ended h = go (eqb k 0) refl
     where
-      go : (b : Bool) → eqb k 0 ≡ b → Ended (cond b (headText (chip .version)) (lineOfVoice chip queues (k - 1)))
-      go true e = head-ended (chip .version)
+      go : (b : Bool) → eqb k 0 ≡ b → Ended (cond b (headText (chip .version) ram) (lineOfVoice chip queues (k - 1)))
+      go true e = head-ended (chip .version) ram
       go false e = voice-ended chip queues (k - 1) (omega arith)
 
-  pub no-sound : (rest : List ℕ) → soundLine (getD (stateLine chip queues k ++ rest) 0 0) k ≡ false
+  pub no-sound : (rest : List ℕ) → soundLine (getD (stateLine chip ram queues k ++ rest) 0 0) k ≡ false
   unfolding stateLine soundLine headText
   no-sound rest = go (eqb k 0) refl
     where
-      go : (b : Bool) → eqb k 0 ≡ b → soundLine (getD (cond b (headText (chip .version)) (lineOfVoice chip queues (k - 1)) ++ rest) 0 0) k ≡ false
+      go : (b : Bool) → eqb k 0 ≡ b → soundLine (getD (cond b (headText (chip .version) ram) (lineOfVoice chip queues (k - 1)) ++ rest) 0 0) k ≡ false
       go true e = rw e
       go false e = rw e
 
-  pub state-found : (at : ℕ) (rest : List ℕ) → k ≤ 8 → foundAt (stateLine chip queues k ++ rest) at k ≡ Line (at + length (stateLine chip queues k))
-  state-found at rest h = found (stateLine chip queues k) rest (state-ended h) at k (no-sound rest)
+  pub state-found : (at : ℕ) (rest : List ℕ) → k ≤ 8 → foundAt (stateLine chip ram queues k ++ rest) at k ≡ Line (at + length (stateLine chip ram queues k))
+  state-found at rest h = found (stateLine chip ram queues k) rest (state-ended h) at k (no-sound rest)
 
 -- ---- the head and the voices by their lines
-module _ (p : Player) (queues : List ℤ) (text : List ℕ) where
-  pub take-head : takeLine p queues 0 text ≡ takenBy p (readHeadCalled (p .chip) text)
+module _ (p : Player) (ram : ℕ) (queues : List ℤ) (text : List ℕ) where
+  pub take-head : takeLine p ram queues 0 text ≡ takenBy p (readHeadCalled (p .chip) ram text)
   unfolding takeLine
   take-head = refl
 
@@ -181,7 +187,7 @@ module _ (p : Player) (queues : List ℤ) (text : List ℕ) where
   unfolding takeLineQueues
   take-head-queues = refl
 
-  pub take-voice : (i : ℕ) → takeLine p queues (suc i) text ≡ takenBy p (readVoiceCalled (p .chip) queues text)
+  pub take-voice : (i : ℕ) → takeLine p ram queues (suc i) text ≡ takenBy p (readVoiceCalled (p .chip) queues text)
   unfolding takeLine
   take-voice i = rw (ne-eqb (suc i) 0 (λ e. absurd (omega arith)))
 
@@ -189,13 +195,13 @@ module _ (p : Player) (queues : List ℤ) (text : List ℕ) where
   unfolding takeLineQueues
   take-voice-queues i = rw (ne-eqb (suc i) 0 (λ e. absurd (omega arith)))
 
-module _ (chip : Chip) (queues : List ℤ) where
-  pub head-line : stateLine chip queues 0 ≡ headText (chip .version)
+module _ (chip : Chip) (ram : ℕ) (queues : List ℤ) where
+  pub head-line : stateLine chip ram queues 0 ≡ headText (chip .version) ram
   unfolding stateLine
   head-line = refl
 
-  pub voice-line : (i : ℕ) → stateLine chip queues (suc i) ≡ lineOfVoice chip queues i
+  pub voice-line : (i : ℕ) → stateLine chip ram queues (suc i) ≡ lineOfVoice chip queues i
   unfolding stateLine
   voice-line i =
-      ap (λ (b : Bool). cond b (headText (chip .version)) (lineOfVoice chip queues (suc i - 1))) (ne-eqb (suc i) 0 (λ e. absurd (omega arith)))
+      ap (λ (b : Bool). cond b (headText (chip .version) ram) (lineOfVoice chip queues (suc i - 1))) (ne-eqb (suc i) 0 (λ e. absurd (omega arith)))
       ∙ ap (lineOfVoice chip queues) (omega arith)

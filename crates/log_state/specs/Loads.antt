@@ -5,7 +5,7 @@ use Prim.Native.Nat.{ℕ, zero, suc}
 use lib.IntN.{ℤ}
 use lib.ListN.{length, take, drop, getD}
 use Rattle.session.specs.declared.LineAnswer.{LineAnswer}
-use Rattle.session.specs.declared.LineAnswer.the-variants.{Done, Written, QueueBuffer, NotAccepted, TextBuffer, Malformed}
+use Rattle.session.specs.declared.LineAnswer.the-variants.{Done, Written, RamLength, QueueBuffer, NotAccepted, TextBuffer, Malformed, OtherLength}
 use Rattle.log_player.specs.declared.Player.{Player}
 use Rattle.log_player.specs.Steps.{firstLine}
 use Rattle.log_state.specs.Lines.{takeLine, takeLineQueues}
@@ -26,17 +26,19 @@ pub data Load : Type 0 where
 abbrev pub goesOn : LineAnswer → Load → Load
 goesOn Done next = next
 goesOn (Written n) next = refused (Written n)
+goesOn RamLength next = refused RamLength
 goesOn QueueBuffer next = refused QueueBuffer
 goesOn NotAccepted next = refused NotAccepted
 goesOn TextBuffer next = refused TextBuffer
 goesOn (Malformed field) next = refused (Malformed field)
+goesOn OtherLength next = refused OtherLength
 
--- n lines, from line k on
-unfoldable pub readLines : ℕ → ℕ → Player → List ℤ → List ℕ → Load
-readLines zero k p queues input = loaded p queues input
-readLines (suc n) k p queues input =
-    goesOn (takeLine p queues k (frontLine input) .answer)
-    (readLines n (suc k) (takeLine p queues k (frontLine input) .player) (takeLineQueues p queues k (frontLine input)) (behindLine input))
+-- n lines, from line k on, by a player over a RAM of some length
+unfoldable pub readLines : ℕ → ℕ → Player → ℕ → List ℤ → List ℕ → Load
+readLines zero k p ram queues input = loaded p queues input
+readLines (suc n) k p ram queues input =
+    goesOn (takeLine p ram queues k (frontLine input) .answer)
+    (readLines n (suc k) (takeLine p ram queues k (frontLine input) .player) ram (takeLineQueues p queues k (frontLine input)) (behindLine input))
 
 -- the lines that a player printed before a state are skipped, at most so many
 unfoldable pub skipLines : ℕ → List ℕ → List ℕ

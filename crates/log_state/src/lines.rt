@@ -1,5 +1,6 @@
 // One line of a state, written or read: line 0 is the head, line k that of voice k - 1.
 ghost use mathlib.Core.Path.{_≡_};
+ghost use lib.ListN.{length};
 ghost use Rattle.log_state.specs.Lines.{putLineAnswer, putLineText, takenBy, takeLine, takeLineQueues};
 use crate::Taken;
 use log_player::Player;
@@ -7,13 +8,13 @@ use session::LineAnswer;
 use session::LineCalled;
 
 // Writes line k at out's beginning, if there is room for it.
-pub fn put_line(player: Player, queues: &[i16], k: usize, out: &mut [u8]) -> LineAnswer
-    ensures answer { λ r. ⌜ r ≡ putLineAnswer (player .chip) (now (queues .entry)) k (now (out .entry)) ⌝ }
-    ensures out { λ _. ⌜ now (out .exit) ≡ putLineText (player .chip) (now (queues .entry)) k (now (out .entry)) ⌝ }
+pub fn put_line(player: Player, ram: &[u8], queues: &[i16], k: usize, out: &mut [u8]) -> LineAnswer
+    ensures answer { λ r. ⌜ r ≡ putLineAnswer (player .chip) (length (now (ram .entry))) (now (queues .entry)) k (now (out .entry)) ⌝ }
+    ensures out { λ _. ⌜ now (out .exit) ≡ putLineText (player .chip) (length (now (ram .entry))) (now (queues .entry)) k (now (out .entry)) ⌝ }
 {
     let chip = player.chip;
     if k == 0 {
-        return session::write_head(chip, out);
+        return session::write_head(chip, ram, out);
     }
     session::write_voice(chip, queues, k - 1, out)
 }
@@ -35,13 +36,13 @@ fn taken(player: Player, called: LineCalled) -> Taken
 }
 
 // Reads line k. A voice line sets the voice that its first field names.
-pub fn take_line(player: Player, queues: &mut [i16], k: usize, text: &[u8]) -> Taken
-    ensures result { λ r. ⌜ r ≡ takeLine player (now (queues .entry)) k (now (text .entry)) ⌝ }
+pub fn take_line(player: Player, ram: &[u8], queues: &mut [i16], k: usize, text: &[u8]) -> Taken
+    ensures result { λ r. ⌜ r ≡ takeLine player (length (now (ram .entry))) (now (queues .entry)) k (now (text .entry)) ⌝ }
     ensures queues { λ _. ⌜ now (queues .exit) ≡ takeLineQueues player (now (queues .entry)) k (now (text .entry)) ⌝ }
 {
     let chip = player.chip;
     if k == 0 {
-        return taken(player, session::read_head(chip, text));
+        return taken(player, session::read_head(chip, ram, text));
     }
     taken(player, session::read_voice(chip, queues, text))
 }

@@ -1,4 +1,4 @@
-// Why a state is not read: `bad`, document 01's number and its value, each behind a comma.
+// Why a state is not read: `bad`, the refusal's number and its value, each behind a comma.
 ghost use mathlib.Core.List.{[], _∷_};
 ghost use Rattle.decimal.specs.Written.{Put};
 ghost use Rattle.session.specs.Answers.{numbersOf};
@@ -30,10 +30,12 @@ pub fn put_refusal(answer: LineAnswer, out: &mut [u8], at: usize) -> usize
     match answer {
         LineAnswer::Done => num::least(at, out.len()),
         LineAnswer::Written(_) => num::least(at, out.len()),
+        LineAnswer::RamLength => put_number(out, at, 1),
         LineAnswer::QueueBuffer => put_number(out, at, 2),
         LineAnswer::NotAccepted => put_number(out, at, 3),
         LineAnswer::TextBuffer => put_number(out, at, 15),
         LineAnswer::Malformed(field) => put_malformed(out, at, field),
+        LineAnswer::OtherLength => put_number(out, at, 22),
     }
 }
 

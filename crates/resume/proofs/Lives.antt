@@ -64,7 +64,7 @@ module _ (m n : Machine) (p : Plain) (s : Second m n) (l : Lived m p) where
   pub lived-resume : Lived (resumed n (seen m)) p
   lived-resume = record {
     held = resumed-held m n (l .held) s;
-    same = ap plain (resumed-world m n (l .held) s) ∙ resumed-plain session session-is-ok (slotChipIn m) (slotChipIn n) (l .held .good) (accepted m n (l .held) s) (s .copy) ∙ l .same;
+    same = ap plain (resumed-world m n (l .held) s) ∙ resumed-plain session session-is-ok (slotChipIn m) (slotChipIn n) (l .held .good) (accepted m n (l .held) s) (s .copy) (l .held .allowed) ∙ l .same;
   }
 
   pub same-text : seen (resumed n (seen m)) ≡ seen m
@@ -85,7 +85,7 @@ module _ (m n : Machine) (p : Plain) (s : Second m n) (l : Lived m p) where
   pub all-done : answersOf (ofChip n (reading (seen m))) ≡ replicate 9 (replies done)
   unfolding code
   all-done =
-      let e : code n (readHead (headText (m .chip .version))) ≡ readBy (record { chip = headed m n (l .held) s .chip; answer = lines.Done }) (n .ram) (n .queues) = ap (λ (c : LineCalled). readBy c (n .ram) (n .queues)) (head-called m n (l .held) s) in
+      let e : code n (readHead (headText (m .chip .version) (length (m .ram)))) ≡ readBy (record { chip = headed m n (l .held) s .chip; answer = lines.Done }) (n .ram) (n .queues) = ap (λ (c : LineCalled). readBy c (n .ram) (n .queues)) (head-called m n (l .held) s) in
       ap₂ (λ (a : CallAnswer) (x : Machine). a ∷ answersOf (ofChip x (map readVoice (seen m .lines)))) (ap (λ (r : Outcome Machine CallAnswer). r .answer) e) (ap (λ (r : Outcome Machine CallAnswer). r .next) e)
       ∙ ap (λ (l : List CallAnswer). replies done ∷ l) (lines-done (headed m n (l .held) s) (headed-held m n (l .held) s) refl)
 

@@ -1,6 +1,6 @@
 -- A second chip in any accepted state that reads a session. Assumes nothing.
 use mathlib.Core.Path.{_≡_, sym, ap, _∙_, subst}
-use mathlib.Core.Bool.{Bool, true, cond}
+use mathlib.Core.Bool.{true}
 use mathlib.Core.List.{List, map}
 use Prim.Native.Nat.{ℕ}
 use lib.ListN.{length}
@@ -21,6 +21,7 @@ use Rattle.session.specs.declared.LineCalled.{LineCalled}
 use Rattle.session.specs.declared.LineAnswer.the-variants as lines
 use Rattle.session.specs.Answers as answers
 use Rattle.session.specs.Heads.{headCalled, readHeadCalled}
+use Rattle.session.proofs.Lines.{goes-over, head-sized}
 use Rattle.slots.specs.Models.{slots, SlotChip}
 use Rattle.slots.specs.Good.{SlotChipOk}
 use Rattle.plain_chip.specs.Chips as chips
@@ -57,17 +58,20 @@ module _ (first second : Machine) (h : HeldMachine first) (s : Second first seco
   abbrev pub headedChip : Chip
   headedChip = record { version = version; core = setCoreVersion (second .chip .core) version }
 
-  pub head-called : readHeadCalled (second .chip) (headText version) ≡ answers.lineAnswered headedChip lines.Done
+  abbrev size : ℕ
+  size = length (first .ram)
+
+  pub head-called : readHeadCalled (second .chip) (length (second .ram)) (headText version size) ≡ answers.lineAnswered headedChip lines.Done
   unfolding readHeadCalled setVersionCalled
   head-called =
-      ap (λ (b : Bool). cond b (headCalled (second .chip) (heads.readHead (headText version))) (answers.lineAnswered (second .chip) lines.NotAccepted)) state
-      ∙ ap (headCalled (second .chip)) (head-back version)
+      sym (goes-over (second .chip) (length (second .ram)) (headCalled (second .chip) (length (second .ram)) (heads.readHead (headText version size))) (answers.lineAnswered (second .chip) lines.NotAccepted) (answers.lineAnswered (second .chip) lines.RamLength) allowed (s .accepted))
+      ∙ sym (head-sized (second .chip) (length (second .ram)) (headText version size) version size (head-back version size (h .allowed)) (ap length (sym (s .copy))))
       ∙ ap (λ (r : Answer). answers.lineAnswered (called r (second .chip) (answered headedChip Done) .chip) lines.Done) (state-none (second .chip) state)
 
   abbrev pub headed : Machine
   headed = record { chip = headedChip; ram = second .ram; queues = second .queues }
 
-  headed-is : code second (readHead (headText version)) .next ≡ headed
+  headed-is : code second (readHead (headText version size)) .next ≡ headed
   unfolding code
   headed-is = ap (λ (c : LineCalled). record { chip = c .chip; ram = second .ram; queues = second .queues }) head-called
 
@@ -79,7 +83,7 @@ module _ (first second : Machine) (h : HeldMachine first) (s : Second first seco
     allowed = allowed;
     sized = version-changed (second .chip .core) (s .typed .sized) version .sized;
     long = s .long;
-    good = subst SlotChipOk (sym headed-world) (headed-good session session-is-ok (slotChipIn first) (slotChipIn second) (h .good) accepted (s .copy));
+    good = subst SlotChipOk (sym headed-world) (headed-good session session-is-ok (slotChipIn first) (slotChipIn second) (h .good) accepted (s .copy) (h .allowed));
   }
 
   pub read-on : resumed second (seen first) ≡ after code headed (map readVoice (seen first .lines))
@@ -92,5 +96,5 @@ module _ (first second : Machine) (h : HeldMachine first) (s : Second first seco
   resumed-world =
       ap slotChipIn read-on
       ∙ world-after headed (map readVoice (seen first .lines)) headed-held (fit-lines (seen first .lines))
-      ∙ ap (λ (w : SlotChip). after (run slots session) w (map readVoice (seen first .lines))) (headed-world ∙ sym (head-read session session-is-ok (slotChipIn first) (slotChipIn second) (h .good) accepted (s .copy)))
+      ∙ ap (λ (w : SlotChip). after (run slots session) w (map readVoice (seen first .lines))) (headed-world ∙ sym (head-read session session-is-ok (slotChipIn first) (slotChipIn second) (h .good) accepted (s .copy) (h .allowed)))
       ∙ ap (reads.slotResumed session (slotChipIn second)) (seen-same first h)

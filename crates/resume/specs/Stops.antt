@@ -25,7 +25,7 @@ use Rattle.chip_calls.specs.Code.{code}
 
 -- the session text that `write_head` and `write_voice` write, and the RAM
 abbrev pub seen : Machine → Seen
-seen m = record { head = headText (m .chip .version); lines = row numChannels (lineOfVoice (m .chip) (m .queues)); ram = m .ram }
+seen m = record { head = headText (m .chip .version) (length (m .ram)); lines = row numChannels (lineOfVoice (m .chip) (m .queues)); ram = m .ram }
 
 -- a chip that reads a session's head and then its voice lines, in order
 abbrev pub reading : Seen → List Call
@@ -109,4 +109,5 @@ pub record SameTexts (one two : Machine) : Type 0 where
 
 pub record SameFields (one two : Machine) : Type 0 where
   pub version : one .chip .version ≡ two .chip .version
+  pub size : length (one .ram) ≡ length (two .ram)
   pub voices : plain (slotChipIn one) .voices ≡ plain (slotChipIn two) .voices

@@ -1,11 +1,13 @@
 -- A session's call leaves an accepted state accepted. Assumes nothing beyond the ranges that the types give.
 use mathlib.Core.Path.{_≡_, refl}
-use mathlib.Core.Bool.{true}
+use mathlib.Core.Bool.{true, cond}
 use mathlib.Core.List.{List}
 use Prim.Native.Nat.{ℕ}
 use native.Mathlib.Omega.{arith}
+use lib.Dec.{eqb}
 use lib.IntN.{ℤ}
 use Rattle.num.proofs.Choice.{cond-by}
+use Rattle.tone.specs.Pcm.{isRamLength}
 use Rattle.session_lines.specs.Head.{readHead}
 use Rattle.session_lines.specs.Lines.{NumberedVoice, ReadVoice, voice, malformed, readVoice}
 use Rattle.session_lines.specs.declared.HeadLine.{HeadLine}
@@ -17,9 +19,9 @@ use Rattle.s3w2.specs.Refusals.{acceptsChip}
 use Rattle.s3w2.specs.declared.Chip.{Chip}
 use Rattle.s3w2.proofs.Kept.{set-version-kept}
 use Rattle.session.specs.declared.LineCalled.{LineCalled}
-use Rattle.session.specs.declared.LineAnswer.the-variants.{QueueBuffer, NotAccepted}
+use Rattle.session.specs.declared.LineAnswer.the-variants.{RamLength, QueueBuffer, NotAccepted, OtherLength}
 use Rattle.session.specs.Answers.{lineAnswered, stateAccepted, queuesLent, withState}
-use Rattle.session.specs.Heads.{headCalled, readHeadCalled}
+use Rattle.session.specs.Heads.{versionCalled, headCalled, readHeadCalled}
 use Rattle.session.specs.Voices.{loadedCore, loadedChip, voiceCalled, readVoiceCalled}
 use Rattle.session.proofs.Loaded.{loaded-changed}
 
@@ -28,13 +30,17 @@ module _ (chip : Chip) (n : ℕ) (ok : acceptsChip chip n ≡ true) (sized : Siz
   abbrev fine : LineCalled → Type 0
   fine x = acceptsChip (x .chip) n ≡ true
 
-  head-kept : (h : HeadLine) → acceptsChip (headCalled chip h .chip) n ≡ true
+  head-kept : (h : HeadLine) → acceptsChip (headCalled chip n h .chip) n ≡ true
   head-kept (head.Version version) = set-version-kept chip n ok sized version
+  head-kept (head.Sized version size) = cond-by fine (eqb size n) (versionCalled chip version) (lineAnswered chip OtherLength) (λ e. set-version-kept chip n ok sized version) (λ e. ok)
   head-kept (head.Malformed field) = ok
 
-  pub read-head-kept : (text : List ℕ) → acceptsChip (readHeadCalled chip text .chip) n ≡ true
+  pub read-head-kept : (text : List ℕ) → acceptsChip (readHeadCalled chip n text .chip) n ≡ true
   unfolding readHeadCalled
-  read-head-kept text = cond-by fine (stateAccepted chip) (headCalled chip (readHead text)) (lineAnswered chip NotAccepted) (λ e. head-kept (readHead text)) (λ e. ok)
+  read-head-kept text =
+      cond-by fine (isRamLength n) (cond (acceptsChip chip n) (headCalled chip n (readHead text)) (lineAnswered chip NotAccepted)) (lineAnswered chip RamLength)
+      (λ e. cond-by fine (acceptsChip chip n) (headCalled chip n (readHead text)) (lineAnswered chip NotAccepted) (λ e. head-kept (readHead text)) (λ e. ok))
+      (λ e. ok)
 
   voice-kept : (v : NumberedVoice) → Told (chip .version) v → acceptsChip (loadedChip chip (v .number) (voice v)) n ≡ true
   voice-kept v r =

@@ -1,14 +1,16 @@
 -- What the calls' definitions say where their tests decide. Assumes nothing.
 use mathlib.Core.Path.{_≡_, refl, sym, ap, ap₂, _∙_}
-use mathlib.Core.Bool.{true, false}
+use mathlib.Core.Bool.{true, false, cond}
 use mathlib.Core.List.{List}
 use Prim.Native.Nat.{ℕ, _+_, _-_, _*_}
 use native.Mathlib.Omega.{arith}
+use lib.Dec.{eqb}
 use lib.IntN.{ℤ}
 use lib.ListN.{length, take, drop}
 use borrow.Author.Tests.{eq-eqb, ne-eqb}
 use Rattle.sizes.specs.Sizes.{fifoCapacity, queueBuffer}
 use Rattle.num.specs.Lists.{part}
+use Rattle.tone.specs.Pcm.{isRamLength}
 use Rattle.version.specs.declared.SguVersion.{SguVersion}
 use Rattle.voice.proofs.Tests.{first-arm, second-arm}
 use Rattle.line_fields.specs.Text.{writtenOf, putOf}
@@ -18,12 +20,11 @@ use Rattle.session_lines.specs.Lines.{voiceText, ReadVoice, voice, toldOf}
 use Rattle.session_lines.specs.declared.HeadLine.the-variants as head
 use Rattle.session_lines.specs.declared.VoiceLine.the-variants as told
 use Rattle.voices.specs.Core.{channelAt}
-use Rattle.s3w2.specs.Fresh.{setVersionCalled}
+use Rattle.s3w2.specs.Refusals.{acceptsChip}
 use Rattle.s3w2.specs.declared.Chip.{Chip}
-use Rattle.s3w2.specs.declared.Called.{Called}
-use Rattle.session.specs.declared.LineAnswer.the-variants.{Done, Malformed}
-use Rattle.session.specs.Answers.{lineAnswered, wrote, stateAccepted, queuesLent, withState, withLentQueues}
-use Rattle.session.specs.Heads.{headCalled}
+use Rattle.session.specs.declared.LineAnswer.the-variants.{Done, Malformed, OtherLength}
+use Rattle.session.specs.Answers.{lineAnswered, wrote, stateAccepted, queuesLent, withState, withLentQueues, withLentRam}
+use Rattle.session.specs.Heads.{versionCalled, headCalled}
 use Rattle.session.specs.Voices.{lineOfVoice, writeVoiceAnswer, writeVoiceText, loadedChip, loadedQueues, voiceCalled, voiceQueues}
 use Rattle.session.proofs.Told.{by-voice, by-fault}
 
@@ -42,13 +43,34 @@ module _ {A : Type 0} (chip : Chip) (queues : List ℤ) (done notAccepted notLen
     pub goes-on : stateAccepted chip ≡ true → done ≡ withLentQueues chip queues done notAccepted notLent
     goes-on e = first-arm (stateAccepted chip) done notAccepted e ∙ lent
 
--- ---- a head
-module _ (chip : Chip) (text : List ℕ) where
-  pub head-set : (version : SguVersion) (c : Called) → readHead text ≡ head.Version version → c ≡ setVersionCalled chip version → lineAnswered (c .chip) Done ≡ headCalled chip (readHead text)
-  head-set version c e q = ap (λ (x : Called). lineAnswered (x .chip) Done) q ∙ sym (ap (headCalled chip) e)
+-- ---- the RAM's length, then the state
+module _ {A : Type 0} (chip : Chip) (ram : ℕ) (done notAccepted notLent : A) where
+  pub other-ram : isRamLength ram ≡ false → notLent ≡ withLentRam chip ram done notAccepted notLent
+  other-ram e = second-arm (isRamLength ram) (cond (acceptsChip chip ram) done notAccepted) notLent e
 
-  pub head-fault : (field : ℕ) → readHead text ≡ head.Malformed field → lineAnswered chip (Malformed field) ≡ headCalled chip (readHead text)
-  head-fault field e = sym (ap (headCalled chip) e)
+  module _ (h : isRamLength ram ≡ true) where
+    lent-ram : cond (acceptsChip chip ram) done notAccepted ≡ withLentRam chip ram done notAccepted notLent
+    lent-ram = first-arm (isRamLength ram) (cond (acceptsChip chip ram) done notAccepted) notLent h
+
+    pub other-state : acceptsChip chip ram ≡ false → notAccepted ≡ withLentRam chip ram done notAccepted notLent
+    other-state e = second-arm (acceptsChip chip ram) done notAccepted e ∙ lent-ram
+
+    pub goes-over : acceptsChip chip ram ≡ true → done ≡ withLentRam chip ram done notAccepted notLent
+    goes-over e = first-arm (acceptsChip chip ram) done notAccepted e ∙ lent-ram
+
+-- ---- a head
+module _ (chip : Chip) (ram : ℕ) (text : List ℕ) where
+  pub head-set : (version : SguVersion) → readHead text ≡ head.Version version → versionCalled chip version ≡ headCalled chip ram (readHead text)
+  head-set version e = sym (ap (headCalled chip ram) e)
+
+  pub head-other : (version : SguVersion) (size : ℕ) → readHead text ≡ head.Sized version size → (size ≡ ram → ⊥) → lineAnswered chip OtherLength ≡ headCalled chip ram (readHead text)
+  head-other version size e h = second-arm (eqb size ram) (versionCalled chip version) (lineAnswered chip OtherLength) (ne-eqb size ram h) ∙ sym (ap (headCalled chip ram) e)
+
+  pub head-sized : (version : SguVersion) (size : ℕ) → readHead text ≡ head.Sized version size → size ≡ ram → versionCalled chip version ≡ headCalled chip ram (readHead text)
+  head-sized version size e h = first-arm (eqb size ram) (versionCalled chip version) (lineAnswered chip OtherLength) (eq-eqb size ram h) ∙ sym (ap (headCalled chip ram) e)
+
+  pub head-fault : (field : ℕ) → readHead text ≡ head.Malformed field → lineAnswered chip (Malformed field) ≡ headCalled chip ram (readHead text)
+  head-fault field e = sym (ap (headCalled chip ram) e)
 
 -- ---- a voice line written
 pub own-line : (chip : Chip) (queues : List ℤ) (ch : ℕ) (w : List ℕ) → w ≡ part (chip .core .wavetables) (ch * 256) (ch * 256 + 256 - ch * 256)

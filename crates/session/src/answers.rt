@@ -31,17 +31,19 @@ pub(crate) fn told(written: Written) -> LineAnswer
 }
 
 impl LineAnswer {
-    // Document 01's number of a refusal; 0 where it is none.
+    // The number of a refusal in documents 01 and 02; 0 where it is none.
     pub fn number(self) -> u8
         ensures { λ r. ⌜ r ≡ getD (numbersOf self) 0 0 ⌝ }
     {
         match self {
             LineAnswer::Done => 0,
             LineAnswer::Written(_) => 0,
+            LineAnswer::RamLength => 1,
             LineAnswer::QueueBuffer => 2,
             LineAnswer::NotAccepted => 3,
             LineAnswer::TextBuffer => 15,
             LineAnswer::Malformed(_) => 16,
+            LineAnswer::OtherLength => 22,
         }
     }
 
@@ -52,10 +54,12 @@ impl LineAnswer {
         match self {
             LineAnswer::Done => 0,
             LineAnswer::Written(_) => 0,
+            LineAnswer::RamLength => 0,
             LineAnswer::QueueBuffer => 0,
             LineAnswer::NotAccepted => 0,
             LineAnswer::TextBuffer => 0,
             LineAnswer::Malformed(field) => field,
+            LineAnswer::OtherLength => 0,
         }
     }
 }

@@ -1,5 +1,5 @@
 // The session's calls on a chip: a head or a voice line written or read. Refusals come in the order of document 01's table:
-// queue buffer, state, then the text.
+// RAM length, queue buffer, state, then the text; then what a well-formed line may not say here.
 mod answers;
 mod heads;
 mod reading;
@@ -16,10 +16,12 @@ pub use writing::write_voice;
 pub enum LineAnswer {
     Done,
     Written(usize),
+    RamLength,
     QueueBuffer,
     NotAccepted,
     TextBuffer,
     Malformed(usize),
+    OtherLength,
 }
 
 pub struct LineCalled {

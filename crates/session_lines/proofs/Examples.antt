@@ -7,7 +7,7 @@ use Rattle.decimal.specs.Read.{naturalAt}
 use Rattle.line_fields.specs.Reading.{closedAt}
 use Rattle.voice.specs.declared.Channel.{Channel}
 use Rattle.session_lines.specs.Lines.{voiceText}
-use Rattle.session_lines.specs.Head.{hasMagic, readHead}
+use Rattle.session_lines.specs.Head.{hasMagic, behindVersion, readHead}
 use Rattle.session_lines.specs.declared.HeadLine.the-variants as head
 
 -- a channel above 7 has no line
@@ -17,5 +17,5 @@ no-line c wavetable q = refl
 
 -- `S3W2,4`, byte 10 and one byte more: text behind the line, number 3
 more-behind : readHead (83 ∷ 51 ∷ 87 ∷ 50 ∷ 44 ∷ 52 ∷ 10 ∷ 10 ∷ []) ≡ head.Malformed 3
-unfolding readHead hasMagic naturalAt closedAt
+unfolding readHead hasMagic behindVersion naturalAt closedAt
 more-behind = refl

@@ -17,8 +17,9 @@ pub enum VoiceLine {
     Malformed(usize),
 }
 
-// What a head is.
+// What a head is: a version, or a version and the length of the RAM, or malformed at a field.
 pub enum HeadLine {
     Version(SguVersion),
+    Sized { version: SguVersion, size: usize },
     Malformed(usize),
 }

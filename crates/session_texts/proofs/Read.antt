@@ -81,7 +81,7 @@ ranges version text v e = let t = read-told version text v e in (omega (arith, t
 -- ---- what a session's lines promise
 pub session-is-ok : TextsOk session
 session-is-ok = record {
-  head-back = λ version. ap headRead (head-back version);
+  head-back = λ version size allowed. ap headRead (head-back version size allowed);
   told = λ version text. go version (readVoice version text) (ranges version text);
   voice-back = λ version ch v h fit. ap voiceRead (voice-back version ch (channelWith v) (v .wavetable) (v .queue .samples) (omega arith) (fields-whole version v fit)) ∙ ap (texts.voice ch) (fields-back ch v (fit .full));
 }

@@ -4,7 +4,7 @@ use Prim.Native.Nat.{ℕ}
 use Rattle.session_lines.specs.Head as heads
 use Rattle.session_lines.specs.Lines.{NumberedVoice, voiceText, ReadVoice, voice, malformed, readVoice}
 use Rattle.session_lines.specs.declared.HeadLine.{HeadLine}
-use Rattle.session_lines.specs.declared.HeadLine.the-variants.{Version, Malformed}
+use Rattle.session_lines.specs.declared.HeadLine.the-variants.{Version, Sized, Malformed}
 use Rattle.plain_chip.specs.Voices.{PlainVoice}
 use Rattle.slots.specs.Slots.{channelWith}
 use Rattle.call_lists.specs.Texts as texts
@@ -30,6 +30,7 @@ voiceRead (malformed field) = VoiceRead.faulty field
 
 abbrev pub headRead : HeadLine → HeadRead
 headRead (Version version) = texts.head version
+headRead (Sized version size) = texts.sized version size
 headRead (Malformed field) = HeadRead.faulty field
 
 abbrev pub session : Texts

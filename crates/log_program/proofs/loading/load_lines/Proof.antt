@@ -6,11 +6,11 @@ use Rattle.log_program.proofs.loading.load_lines.Statement.{statement}
 use Rattle.log_program.proofs.loading.load_lines.Tie as tie
 
 abbrev Inv-loop : tie.InvT-loop
-Inv-loop input₀ text₀ queues₀ load₀ turns₀ input text queues load turns =
+Inv-loop input₀ text₀ ram queues₀ load₀ turns₀ input text queues load turns =
     (length input ≡ length input₀) × (length text ≡ length text₀) × (length queues ≡ length queues₀)
 
 abbrev μ-loop : tie.MeasureT-loop
-μ-loop input₀ text₀ queues₀ load₀ turns₀ input text queues load turns = turns
+μ-loop input₀ text₀ ram queues₀ load₀ turns₀ input text queues load turns = turns
 
 loop-holds : tie.Need-loop-holds Inv-loop μ-loop
 loop-holds c = (refl, refl, refl)

@@ -10,7 +10,7 @@ same-length : tie.Need-same-length
 same-length c = search needs
 
 returns : tie.Need-returns
-returns c = head-written (c .before .before .before .before .before .before .before .args .player .chip) (c .before .before .before .before .before .before .before .args .queues .now) (c .before .before .before .before .before .before .before .args .k) (c .before .before .before .before .before .before .before .args .out .now) _ _ (c .before .before .before .before .if1 .taken) (c .before .before .write-head .ensures)
+returns c = head-written (c .before .before .before .before .before .before .before .before .args .player .chip) _ (c .before .before .before .before .before .before .before .before .args .queues .now) (c .before .before .before .before .before .before .before .before .args .k) (c .before .before .before .before .before .before .before .before .args .out .now) _ _ (c .before .before .before .before .if1 .taken) (c .before .before .write-head .ensures)
 
 sub-write-voice : tie.Need-sub-write-voice
 sub-write-voice c = search needs
@@ -22,7 +22,7 @@ same-length-2 : tie.Need-same-length-2
 same-length-2 c = search needs
 
 returns-2 : tie.Need-returns-2
-returns-2 c = voice-written (c .before .before .before .before .before .before .before .args .player .chip) (c .before .before .before .before .before .before .before .args .queues .now) (c .before .before .before .before .before .before .before .args .k) (c .before .before .before .before .before .before .before .args .out .now) _ _ (c .before .before .before .before .if1 .left) (c .before .before .write-voice .ensures)
+returns-2 c = voice-written (c .before .before .before .before .before .before .before .before .args .player .chip) _ (c .before .before .before .before .before .before .before .before .args .queues .now) (c .before .before .before .before .before .before .before .before .args .k) (c .before .before .before .before .before .before .before .before .args .out .now) _ _ (c .before .before .before .before .if1 .left) (c .before .before .write-voice .ensures)
 
 pub put-line-spec : {M : Type 1} → statement M
 put-line-spec =

@@ -10,7 +10,7 @@ taken-requires : tie.Need-taken-requires
 taken-requires c κs = search needs
 
 returns : tie.Need-returns
-returns c = head-taken (c .before .before .before .before .before .args .player) (c .before .before .before .before .before .args .queues .now) (c .before .before .before .before .before .args .k) (c .before .before .before .before .before .args .text .now) _ _ (c .before .before .if1 .taken) (c .before .read-head .ensures) (c .taken .ensures)
+returns c = head-taken (c .before .before .before .before .before .before .args .player) _ (c .before .before .before .before .before .before .args .queues .now) (c .before .before .before .before .before .before .args .k) (c .before .before .before .before .before .before .args .text .now) _ _ (c .before .before .if1 .taken) (c .before .read-head .ensures) (c .taken .ensures)
 
 read-voice-requires : tie.Need-read-voice-requires
 read-voice-requires c κs = search needs
@@ -22,7 +22,7 @@ same-length : tie.Need-same-length
 same-length c = search needs
 
 returns-2 : tie.Need-returns-2
-returns-2 c = voice-taken (c .before .before .before .before .before .before .before .args .player) (c .before .before .before .before .before .before .before .args .queues .now) (c .before .before .before .before .before .before .before .args .k) (c .before .before .before .before .before .before .before .args .text .now) _ _ _ (c .before .before .before .before .if1 .left) (c .before .before .read-voice .ensures) (c .taken2 .ensures)
+returns-2 c = voice-taken (c .before .before .before .before .before .before .before .before .args .player) _ (c .before .before .before .before .before .before .before .before .args .queues .now) (c .before .before .before .before .before .before .before .before .args .k) (c .before .before .before .before .before .before .before .before .args .text .now) _ _ _ (c .before .before .before .before .if1 .left) (c .before .before .read-voice .ensures) (c .taken2 .ensures)
 
 pub take-line-spec : {M : Type 1} → statement M
 take-line-spec =

@@ -33,11 +33,23 @@ enum-told-5 c = search needs
 put-number-requires-3 : tie.Need-put-number-requires-3
 put-number-requires-3 c κs = search needs
 
+enum-told-6 : tie.Need-enum-told-6
+enum-told-6 c = search needs
+
+put-number-requires-4 : tie.Need-put-number-requires-4
+put-number-requires-4 c κs = search needs
+
 enum-known-answer : tie.Need-enum-known-answer
 enum-known-answer c = search needs
 
 put-malformed-requires : tie.Need-put-malformed-requires
 put-malformed-requires c κs = search needs
+
+enum-told-7 : tie.Need-enum-told-7
+enum-told-7 c = search needs
+
+put-number-requires-5 : tie.Need-put-number-requires-5
+put-number-requires-5 c κs = search needs
 
 returns : tie.Need-returns
 returns c = answer-as _ _ _ _ _ _ (c .before .enum-told .given .1) (none-put _ _ _ (c .least .ensures))
@@ -67,7 +79,19 @@ same-length-4 : tie.Need-same-length-4
 same-length-4 c = search needs
 
 returns-6 : tie.Need-returns-6
-returns-6 c = answer-as _ _ _ _ _ _ (c .before .before .before .before .before .answer .given .1) (c .before .before .put-malformed .ensures)
+returns-6 c = answer-as _ _ _ _ _ _ (c .before .before .before .before .enum-told6 .given .1) (c .before .before .put-number4 .ensures)
+
+same-length-5 : tie.Need-same-length-5
+same-length-5 c = search needs
+
+returns-7 : tie.Need-returns-7
+returns-7 c = answer-as _ _ _ _ _ _ (c .before .before .before .before .before .answer .given .1) (c .before .before .put-malformed .ensures)
+
+same-length-6 : tie.Need-same-length-6
+same-length-6 c = search needs
+
+returns-8 : tie.Need-returns-8
+returns-8 c = answer-as _ _ _ _ _ _ (c .before .before .before .before .enum-told7 .given .1) (c .before .before .put-number5 .ensures)
 
 pub put-refusal-spec : {M : Type 1} → statement M
 put-refusal-spec =
@@ -83,8 +107,12 @@ put-refusal-spec =
     put-number-requires-2
     enum-told-5
     put-number-requires-3
+    enum-told-6
+    put-number-requires-4
     enum-known-answer
     put-malformed-requires
+    enum-told-7
+    put-number-requires-5
     returns
     returns-2
     same-length
@@ -94,4 +122,8 @@ put-refusal-spec =
     same-length-3
     returns-5
     same-length-4
-    returns-6)
+    returns-6
+    same-length-5
+    returns-7
+    same-length-6
+    returns-8)

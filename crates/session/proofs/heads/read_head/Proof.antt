@@ -1,21 +1,30 @@
-use borrow.Author.Needs.{needs}
 use mathlib.Core.Path.{sym, _∙_}
 use borrow.Author.Tests.{not-true, not-false}
-use Rattle.voice.proofs.Tests.{first-arm, second-arm}
 use Rattle.session.specs.Heads.{readHeadCalled}
-use Rattle.session.proofs.Lines.{head-set, head-fault}
+use Rattle.session.proofs.Lines.{other-ram, other-state, goes-over, head-set, head-other, head-sized, head-fault}
+use borrow.Author.Needs.{needs}
 use Rattle.session.proofs.heads.read_head.Statement.{statement}
 use Rattle.session.proofs.heads.read_head.Tie as tie
 
-accepted-requires : tie.Need-accepted-requires
-accepted-requires c κs = search needs
+is-ram-length-requires : tie.Need-is-ram-length-requires
+is-ram-length-requires c κs = search needs
 
 answers-requires : tie.Need-answers-requires
 answers-requires c κs = search needs
 
 returns : tie.Need-returns
 unfolding readHeadCalled
-returns c = c .answers .ensures ∙ second-arm _ _ _ (sym (c .before .before .accepted .ensures) ∙ not-true _ (c .before .if1 .taken))
+returns c = c .answers .ensures ∙ other-ram (c .before .before .before .before .before .args .chip) _ _ _ _ (sym (c .before .before .is-ram-length .ensures) ∙ not-true _ (c .before .if1 .taken))
+
+accepts-requires : tie.Need-accepts-requires
+accepts-requires c κs = search needs
+
+answers-requires-2 : tie.Need-answers-requires-2
+answers-requires-2 c κs = search needs
+
+returns-2 : tie.Need-returns-2
+unfolding readHeadCalled
+returns-2 c = c .answers2 .ensures ∙ other-state (c .before .before .before .before .before .before .before .args .chip) _ _ _ _ (sym (c .before .before .before .before .is-ram-length .ensures) ∙ not-false _ (c .before .before .before .if1 .left)) (sym (c .before .before .accepts .ensures) ∙ not-true _ (c .before .if2 .taken))
 
 read-head-requires : tie.Need-read-head-requires
 read-head-requires c κs = search needs
@@ -26,43 +35,60 @@ enum-known-head c = search needs
 set-version-requires : tie.Need-set-version-requires
 set-version-requires c κs = search needs
 
-answers-requires-2 : tie.Need-answers-requires-2
-answers-requires-2 c κs = search needs
-
 enum-known-head-2 : tie.Need-enum-known-head-2
 enum-known-head-2 c = search needs
 
 answers-requires-3 : tie.Need-answers-requires-3
 answers-requires-3 c κs = search needs
 
-returns-2 : tie.Need-returns-2
-unfolding readHeadCalled
-returns-2 c =
-    let h = c .before .before .before in
-    let a = h .before .before .before .before .before .before .args in
-    c .answers2 .ensures ∙ head-set (a .chip) (a .text .now) _ _ (sym (h .before .before .read-head .ensures) ∙ h .head .given .1) (c .before .set-version .ensures)
-    ∙ first-arm _ _ _ (sym (h .before .before .before .before .accepted .ensures) ∙ not-false _ (h .before .before .before .if1 .left))
-
 returns-3 : tie.Need-returns-3
 unfolding readHeadCalled
-returns-3 c =
-    let h = c .before .before in
-    let a = h .before .before .before .before .before .before .args in
-    c .answers3 .ensures ∙ head-fault (a .chip) (a .text .now) _ (sym (h .before .before .read-head .ensures) ∙ h .head2 .given .1)
-    ∙ first-arm _ _ _ (sym (h .before .before .before .before .accepted .ensures) ∙ not-false _ (h .before .before .before .if1 .left))
+returns-3 c = c .answers3 .ensures ∙ head-other (c .before .before .before .before .before .before .before .before .before .before .before .before .args .chip) _ (c .before .before .before .before .before .before .before .before .before .before .before .before .args .text .now) _ _ (sym (c .before .before .before .before .before .read-head .ensures) ∙ c .before .before .before .head2 .given .1) (c .before .if3 .taken)
+    ∙ goes-over (c .before .before .before .before .before .before .before .before .before .before .before .before .args .chip) _ _ _ _ (sym (c .before .before .before .before .before .before .before .before .before .is-ram-length .ensures) ∙ not-false _ (c .before .before .before .before .before .before .before .before .if1 .left)) (sym (c .before .before .before .before .before .before .before .accepts .ensures) ∙ not-false _ (c .before .before .before .before .before .before .if2 .left))
+
+set-version-requires-2 : tie.Need-set-version-requires-2
+set-version-requires-2 c κs = search needs
+
+enum-known-head-3 : tie.Need-enum-known-head-3
+enum-known-head-3 c = search needs
+
+answers-requires-4 : tie.Need-answers-requires-4
+answers-requires-4 c κs = search needs
+
+returns-4 : tie.Need-returns-4
+unfolding readHeadCalled
+returns-4 c = c .set-version .ensures ∙ head-set (c .before .before .before .before .before .before .before .before .before .before .before .args .chip) _ (c .before .before .before .before .before .before .before .before .before .before .before .args .text .now) _ (sym (c .before .before .before .before .read-head .ensures) ∙ c .before .before .head .given .1)
+    ∙ goes-over (c .before .before .before .before .before .before .before .before .before .before .before .args .chip) _ _ _ _ (sym (c .before .before .before .before .before .before .before .before .is-ram-length .ensures) ∙ not-false _ (c .before .before .before .before .before .before .before .if1 .left)) (sym (c .before .before .before .before .before .before .accepts .ensures) ∙ not-false _ (c .before .before .before .before .before .if2 .left))
+
+returns-5 : tie.Need-returns-5
+unfolding readHeadCalled
+returns-5 c = c .set-version2 .ensures ∙ head-sized (c .before .before .before .before .before .before .before .before .before .before .before .before .args .chip) _ (c .before .before .before .before .before .before .before .before .before .before .before .before .args .text .now) _ _ (sym (c .before .before .before .before .before .read-head .ensures) ∙ c .before .before .before .head2 .given .1) (c .before .if3 .left)
+    ∙ goes-over (c .before .before .before .before .before .before .before .before .before .before .before .before .args .chip) _ _ _ _ (sym (c .before .before .before .before .before .before .before .before .before .is-ram-length .ensures) ∙ not-false _ (c .before .before .before .before .before .before .before .before .if1 .left)) (sym (c .before .before .before .before .before .before .before .accepts .ensures) ∙ not-false _ (c .before .before .before .before .before .before .if2 .left))
+
+returns-6 : tie.Need-returns-6
+unfolding readHeadCalled
+returns-6 c = c .answers4 .ensures ∙ head-fault (c .before .before .before .before .before .before .before .before .before .before .before .args .chip) _ (c .before .before .before .before .before .before .before .before .before .before .before .args .text .now) _ (sym (c .before .before .before .before .read-head .ensures) ∙ c .before .before .head3 .given .1)
+    ∙ goes-over (c .before .before .before .before .before .before .before .before .before .before .before .args .chip) _ _ _ _ (sym (c .before .before .before .before .before .before .before .before .is-ram-length .ensures) ∙ not-false _ (c .before .before .before .before .before .before .before .if1 .left)) (sym (c .before .before .before .before .before .before .accepts .ensures) ∙ not-false _ (c .before .before .before .before .before .if2 .left))
 
 pub read-head-spec : {M : Type 1} → statement M
 read-head-spec =
     tie.close
     (tie.spec
-    accepted-requires
+    is-ram-length-requires
     answers-requires
     returns
+    accepts-requires
+    answers-requires-2
+    returns-2
     read-head-requires
     enum-known-head
     set-version-requires
-    answers-requires-2
     enum-known-head-2
     answers-requires-3
-    returns-2
-    returns-3)
+    returns-3
+    set-version-requires-2
+    enum-known-head-3
+    answers-requires-4
+    returns-4
+    returns-5
+    returns-6)

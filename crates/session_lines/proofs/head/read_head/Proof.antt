@@ -1,9 +1,9 @@
 use mathlib.Core.Path.{_≡_, sym, ap, _∙_}
 use borrow.Author.Tests.{not-true, not-false}
 use Rattle.decimal.specs.declared.TakenNatural.the-variants.{Natural}
-use Rattle.session_lines.specs.Head.{headOf, readHead}
-use Rattle.session_lines.specs.declared.HeadLine.the-variants.{Version}
-use Rattle.session_lines.proofs.Heads.{not-named, name-only, name-longer, read, over, open-end, good-end}
+use Rattle.version.specs.declared.SguVersion.{SguVersion}
+use Rattle.session_lines.specs.Head.{behindVersion, headOf, readHead}
+use Rattle.session_lines.proofs.Heads.{not-named, name-only, name-longer, read, over, within}
 use borrow.Author.Needs.{needs}
 use Rattle.session_lines.proofs.head.read_head.Statement.{statement}
 use Rattle.session_lines.proofs.head.read_head.Tie as tie
@@ -52,17 +52,16 @@ cast-if4 c = search needs
 returns-5 : tie.Need-returns-5
 returns-5 c = sym (found (c .before .before) ∙ over _ _ _ (c .if4 .taken))
 
-closed-requires : tie.Need-closed-requires
-closed-requires c κs = search needs
-
-returns-6 : tie.Need-returns-6
-returns-6 c = sym (found (c .before .before .before .before) ∙ open-end _ _ _ (c .before .before .if4 .left) (sym (c .before .closed .ensures) ∙ not-true _ (c .if5 .taken)))
-
 numbered-requires : tie.Need-numbered-requires
 numbered-requires c κs = search needs
 
-returns-7 : tie.Need-returns-7
-returns-7 c = ap Version (c .numbered .ensures) ∙ sym (found (c .before .before .before .before .before) ∙ good-end _ _ _ (c .before .before .before .if4 .left) (sym (c .before .before .closed .ensures) ∙ not-false _ (c .before .if5 .left)))
+versioned-requires : tie.Need-versioned-requires
+versioned-requires c κs = search needs
+
+returns-6 : tie.Need-returns-6
+returns-6 c =
+    let t = c .before .before .before .before .before .before .before .before .before .before .before .before .args .text .now in
+    c .versioned .ensures ∙ ap (λ (v : SguVersion). behindVersion t v (c .before .before .before .before .taken .given .0 .1 .0)) (c .before .numbered .ensures) ∙ sym (found (c .before .before .before .before) ∙ within _ _ _ (c .before .before .if4 .left))
 
 pub read-head-spec : {M : Type 1} → statement M
 read-head-spec =
@@ -80,7 +79,6 @@ read-head-spec =
     returns-4
     cast-if4
     returns-5
-    closed-requires
-    returns-6
     numbered-requires
-    returns-7)
+    versioned-requires
+    returns-6)
