@@ -1,6 +1,10 @@
 
 // Added to the copied module by oracle/build: what the drivers s3w2_script.rs and s3w2_log.rs need of its private fields.
 impl Channel {
+    pub fn is_on(&self) -> bool {
+        self.active
+    }
+
     /// The fields of a D line: the state, the cache, then wavetable, queue and decoded fragments.
     pub fn shown(&self) -> Vec<i128> {
         let mut f: Vec<i128> = vec![

@@ -24,6 +24,16 @@ impl Seeded {
     }
 }
 
+/// Which voices are active, before a call.
+fn on(chip: &S3w2Sound) -> [bool; 8] {
+    std::array::from_fn(|ch| chip.channels[ch].is_on())
+}
+
+/// The voices that were and are so no more, bit n for channel n.
+fn ended(was: [bool; 8], chip: &S3w2Sound) -> i128 {
+    (0..8).map(|ch| i128::from(was[ch] && !chip.channels[ch].is_on()) << ch).sum()
+}
+
 fn is_ram_length(n: usize) -> bool {
     n.is_power_of_two() && (256..=16_777_216).contains(&n)
 }
@@ -111,7 +121,11 @@ impl Player {
             b'A' => return one(S3w2Sound::convert_to_absolute_channel_address(b(0), b(1), b(2)) as i128),
             b'w' => return one(if past(u(0), c) { 0 } else { c.wavetable_length(u(0)) as i128 }),
             b'i' => return one(if past(u(0), c) { 0 } else { c.interpolates(u(0)).into() }),
-            b'G' => return one(c.generate_sample(u(0)).into()),
+            b'G' => {
+                let was = on(c);
+                let sample = c.generate_sample(u(0)).into();
+                return Ok(vec![sample, (ended(was, c) != 0).into()]);
+            }
             b'U' => {
                 let bytes: Vec<u8> = f.iter().map(|&x| x as u8).collect();
                 return one(std::str::from_utf8(&bytes).ok().and_then(SguVersion::parse).map_or(9, |v| v as i128));
@@ -141,8 +155,9 @@ impl Player {
         if length % 16 != 0 || length / 16 != frames {
             return Err(14);
         }
+        let was = on(&self.chip);
         let out = self.chip.clock(frames);
-        let mut all = vec![];
+        let mut all = vec![ended(was, &self.chip)];
         for i in 0..frames {
             for ch in 0..8 {
                 all.extend([i128::from(out[ch][0][i]), i128::from(out[ch][1][i])]);
@@ -171,8 +186,10 @@ impl Player {
         let mut wide = |_| (u32::from(s.next()) << 16 | u32::from(s.next())) as i32;
         let mut l: Vec<i32> = (0..left).map(&mut wide).collect();
         let mut r: Vec<i32> = (0..right).map(&mut wide).collect();
+        let was = on(&self.chip);
         self.chip.clock_mixed_into_i32(&mut l, &mut r);
-        Ok(l.iter().chain(&r).map(|&x| x.into()).collect())
+        let set = ended(was, &self.chip);
+        Ok(std::iter::once(set).chain(l.iter().chain(&r).map(|&x| x.into())).collect())
     }
 
     fn set_state(&mut self, ch: usize, f: &[i128]) {

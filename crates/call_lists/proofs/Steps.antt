@@ -1,6 +1,6 @@
 -- One call, on a chip over one model of voices and on the chip that it is over another: the same after it, the same answer; a good chip
 -- stays good. Assumes nothing.
-use mathlib.Core.Path.{_≡_, refl, ap, _∙_}
+use mathlib.Core.Path.{_≡_, refl, ap, ap₂, _∙_}
 use mathlib.Core.Bool.{Bool, true, false, cond}
 use mathlib.Core.List.{List, [], _∷_}
 use Prim.Native.Nat.{ℕ, _*_, min}
@@ -8,12 +8,14 @@ use lib.Dec.{eqb}
 use lib.IntN.{ℤ}
 use lib.ListN.{length}
 use Rattle.sizes.specs.Sizes.{stemsPerFrame}
+use Rattle.endings.specs.Sets.{off}
+use Rattle.endings.proofs.Sets.{set-same}
 use Rattle.version.specs.declared.SguVersion.{SguVersion}
 use Rattle.sides.specs.Sides.{saturating, wrapping}
 use Rattle.plain_chip.specs.Voices.{PlainVoice}
 use Rattle.plain_chip.specs.Models.{Model}
 use Rattle.plain_chip.specs.Frames.{ModelTurns}
-use Rattle.plain_chip.specs.Chips.{ModelChip, withVoices}
+use Rattle.plain_chip.specs.Chips.{ModelChip, withVoices, fieldsAt, afterGenerated, afterClocked}
 use Rattle.plain_chip.specs.Good.{ChipOk}
 use Rattle.plain_chip.proofs.Sims.{Sim}
 use Rattle.plain_chip.proofs.Calls.{chipSeen}
@@ -21,7 +23,7 @@ use Rattle.plain_chip.proofs.Calls as calls
 use Rattle.call_lists.specs.Runs.{Outcome}
 use Rattle.call_lists.specs.Mixing.{Mix, clearedTo}
 use Rattle.call_lists.specs.Texts.{Texts, TextsOk, Told, VoiceRead, voice, HeadRead, head, sized}
-use Rattle.call_lists.specs.Calls.{Call, reset, setVersion, resetChannel, writeRegister, readRegister, peekRegister, writeChannelControl, readChannelControl, writeChannelPcmReg, readChannelPcmReg, writeChannelWavetable, readChannelWavetable, wavetableLength, interpolates, writePcmRam, readPcmRam, generateSample, clock, clockMixed, clockMixedInto, clockMixedIntoI32, writeHead, readHead, writeVoice, readVoice, done, byte, count, flag, sample, CallAnswer, replies, plays, lineAnswer, gives, mixes, mixedTo, headTold, voiceTold, run}
+use Rattle.call_lists.specs.Calls.{Call, reset, setVersion, resetChannel, writeRegister, readRegister, peekRegister, writeChannelControl, readChannelControl, writeChannelPcmReg, readChannelPcmReg, writeChannelWavetable, readChannelWavetable, wavetableLength, interpolates, writePcmRam, readPcmRam, generateSample, clock, clockMixed, clockMixedInto, clockMixedIntoI32, writeHead, readHead, writeVoice, readVoice, Reply, done, byte, count, flag, sample, ended, CallAnswer, replies, plays, lineAnswer, gives, endedAt, endedIn, mixes, mixedTo, headTold, voiceTold, run}
 use Rattle.call_lists.specs.Seen.{FitCall}
 use Rattle.call_lists.proofs.Mixing.{length-mixed, keeps-mixed, same-mixed}
 
@@ -44,15 +46,27 @@ module _ {A B : Type 0} {g : A → B} {P : SguVersion → List ℕ → A → Typ
     still : (x y : CallAnswer) → x ≡ y → Same (gives a t c x) (gives b t d y)
     still x y e = record { next = refl; answer = e; ok = ok }
 
-    -- frames added to sides
-    mix : (plus : ℤ → ℤ → ℤ) (left right : List ℤ) → Same (mixedTo a t c (mixes a t plus c left right)) (mixedTo b t d (mixes b t plus d left right))
-    mix plus left right =
+    -- voices turned off: the chip after the call is seen as one chip over the other model
+    ended-at : (e : ModelChip A) (f : ModelChip B) → chipSeen g e ≡ f → (ch : ℕ) → endedAt a t c e ch ≡ endedAt b t d f ch
+    ended-at e f n ch =
+        ap₂ (λ (x y : PlainVoice). off (x .pcm .active) (y .pcm .active)) (calls.same-voice sim c ch) (calls.same-voice sim e ch ∙ ap (λ (z : ModelChip B). fieldsAt b z ch) n)
+
+    ended-in : (e : ModelChip A) (f : ModelChip B) → chipSeen g e ≡ f → endedIn a t c e ≡ endedIn b t d f
+    ended-in e f n = set-same 8 (endedAt a t c e) (endedAt b t d f) (λ ch h. ended-at e f n ch)
+
+    -- frames added to sides, with a reply that is the same on both
+    mix : (plus : ℤ → ℤ → ℤ) (left right : List ℤ) (r : ModelChip A → Reply) (s : ModelChip B → Reply) → ((e : ModelChip A) (f : ModelChip B) → chipSeen g e ≡ f → r e ≡ s f)
+        → let x = mixes a t plus c left right in
+        let y = mixes b t plus d left right in
+        Same (mixedTo a t c x (r (withVoices c (x .voices)))) (mixedTo b t d y (s (withVoices d (y .voices))))
+    mix plus left right r s q =
         let n : ℕ = min (length left) (length right) in
         let x : Mix A = record { voices = c .voices; left = left; right = right; values = [] } in
         let e = same-mixed sim plus (c .version) (c .ram) (ok .bytes) n x (ok .voices) in
+        let after = ap (λ (z : Mix B). withVoices d (z .voices)) e in
         record {
-          next = ap (λ (z : Mix B). withVoices d (z .voices)) e;
-          answer = ap (λ (z : Mix B). plays done (z .left ∷ z .right ∷ []) (z .values)) e;
+          next = after;
+          answer = ap₂ (λ (u : Reply) (z : Mix B). plays u (z .left ∷ z .right ∷ []) (z .values)) (q _ _ after) e;
           ok = record {
             voices = keeps-mixed sim plus (c .version) (c .ram) (ok .bytes) n x (ok .voices);
             eight = length-mixed a plus (c .version) (c .ram) n x ∙ ok .eight;
@@ -96,23 +110,25 @@ module _ {A B : Type 0} {g : A → B} {P : SguVersion → List ℕ → A → Typ
     step (readPcmRam address) f = still _ _ refl
     step (generateSample ch) f =
         let e = calls.same-generated sim c ok ch in
+        let after = ap (λ (r : ModelTurns B). withVoices d (r .voices)) e in
         record {
-          next = ap (λ (r : ModelTurns B). withVoices d (r .voices)) e;
-          answer = ap (λ (r : ModelTurns B). plays (sample (r .sample)) [] (r .values)) e;
+          next = after;
+          answer = ap₂ (λ (r : ModelTurns B) (s : Bool). plays (sample (r .sample) s) [] (r .values)) e (ended-at (afterGenerated a ch c) (afterGenerated b ch d) after ch);
           ok = calls.ok-generated sim c ok ch;
         }
     step (clock n stems) f =
         let e = calls.same-clocked sim c ok n in
+        let after = ap (λ (r : ModelTurns B). withVoices d (r .voices)) e in
         either (eqb (length stems) (stemsPerFrame * n)) _ _ _ _
         (record {
-          next = ap (λ (r : ModelTurns B). withVoices d (r .voices)) e;
-          answer = ap (λ (r : ModelTurns B). plays done (r .stems ∷ []) (r .values)) e;
+          next = after;
+          answer = ap₂ (λ (r : ModelTurns B) (s : ℕ). plays (ended s) (r .stems ∷ []) (r .values)) e (ended-in (afterClocked a n c) (afterClocked b n d) after);
           ok = calls.ok-clocked sim c ok n;
         })
         (still _ _ refl)
-    step (clockMixed left right) f = mix saturating (clearedTo (min (length left) (length right)) left) (clearedTo (min (length left) (length right)) right)
-    step (clockMixedInto left right) f = mix saturating left right
-    step (clockMixedIntoI32 left right) f = mix wrapping left right
+    step (clockMixed left right) f = mix saturating (clearedTo (min (length left) (length right)) left) (clearedTo (min (length left) (length right)) right) (λ e. done) (λ f. done) (λ e f n. refl)
+    step (clockMixedInto left right) f = mix saturating left right (λ e. done) (λ f. done) (λ e f n. refl)
+    step (clockMixedIntoI32 left right) f = mix wrapping left right (λ e. ended (endedIn a t c e)) (λ f. ended (endedIn b t d f)) (λ e f n. ap ended (ended-in e f n))
     step (writeHead out) f = still _ _ refl
     step (readHead text) f = heads (t .readHead text)
     step (writeVoice ch out) f = still _ _ (ap (λ (v : PlainVoice). lineAnswer (t .voiceText ch v) out) (calls.same-voice sim c ch))

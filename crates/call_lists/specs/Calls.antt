@@ -6,7 +6,8 @@ use lib.Dec.{eqb, leb}
 use lib.IntN.{ℤ}
 use lib.ListN.{length}
 use lib.Seq.{sets}
-use Rattle.sizes.specs.Sizes.{stemsPerFrame}
+use Rattle.sizes.specs.Sizes.{numChannels, stemsPerFrame}
+use Rattle.endings.specs.Sets.{off, setOf}
 use Rattle.version.specs.declared.SguVersion.{SguVersion}
 use Rattle.sides.specs.Sides.{saturating, wrapping}
 use Rattle.plain_chip.specs.Models.{Model}
@@ -50,7 +51,10 @@ pub data Reply : Type 0 where
   byte : ℕ → Reply
   count : ℕ → Reply
   flag : Bool → Reply
-  sample : ℤ → Reply
+  -- a tick's sample, and whether it turned its voice off
+  sample : ℤ → Bool → Reply
+  -- the voices that frames turned off
+  ended : ℕ → Reply
   refused : List ℕ → Reply
 
 -- the lent stems or sides and the lent text as the call left them, and the values ahead of the volume of its ticks
@@ -79,8 +83,15 @@ module _ {A : Type 0} (m : Model A) (t : Texts) where
   abbrev pub mixes : (ℤ → ℤ → ℤ) → ModelChip A → List ℤ → List ℤ → Mix A
   mixes plus c left right = mixed m plus (c .version) (c .ram) (min (length left) (length right)) (record { voices = c .voices; left = left; right = right; values = [] })
 
-  abbrev pub mixedTo : ModelChip A → Mix A → Outcome (ModelChip A) CallAnswer
-  mixedTo c x = gives (withVoices c (x .voices)) (plays done (x .left ∷ x .right ∷ []) (x .values))
+  -- whether voice ch was active and is so no more; the voices of which that is true
+  abbrev pub endedAt : ModelChip A → ModelChip A → ℕ → Bool
+  endedAt c d ch = off (fieldsAt m c ch .pcm .active) (fieldsAt m d ch .pcm .active)
+
+  abbrev pub endedIn : ModelChip A → ModelChip A → ℕ
+  endedIn c d = setOf numChannels (endedAt c d)
+
+  abbrev pub mixedTo : ModelChip A → Mix A → Reply → Outcome (ModelChip A) CallAnswer
+  mixedTo c x reply = gives (withVoices c (x .voices)) (plays reply (x .left ∷ x .right ∷ []) (x .values))
 
   -- a head that tells the length of another RAM is turned away
   abbrev pub headTold : ModelChip A → HeadRead → Outcome (ModelChip A) CallAnswer
@@ -94,7 +105,7 @@ module _ {A : Type 0} (m : Model A) (t : Texts) where
 
   abbrev pub clocks : ℕ → List ℤ → ModelChip A → Outcome (ModelChip A) CallAnswer
   clocks n stems c =
-      cond (eqb (length stems) (stemsPerFrame * n)) (gives (chips.afterClocked m n c) (plays done (chips.clocked m n c .stems ∷ []) (chips.clocked m n c .values)))
+      cond (eqb (length stems) (stemsPerFrame * n)) (gives (chips.afterClocked m n c) (plays (ended (endedIn c (chips.afterClocked m n c))) (chips.clocked m n c .stems ∷ []) (chips.clocked m n c .values)))
       (gives c (plays (refused (14 ∷ [])) (stems ∷ []) []))
 
   unfoldable pub run : ModelChip A → Call → Outcome (ModelChip A) CallAnswer
@@ -114,13 +125,17 @@ module _ {A : Type 0} (m : Model A) (t : Texts) where
   run c (interpolates ch) = gives c (replies (flag (chips.interpolatesAt m ch c)))
   run c (writePcmRam address value) = gives (chips.writePcmRam m address value c) (replies done)
   run c (readPcmRam address) = gives c (replies (byte (chips.readPcmRam m address c)))
-  run c (generateSample ch) = gives (chips.afterGenerated m ch c) (plays (sample (chips.generated m ch c .sample)) [] (chips.generated m ch c .values))
+  run c (generateSample ch) =
+      let d = chips.afterGenerated m ch c in
+      gives d (plays (sample (chips.generated m ch c .sample) (endedAt c d ch)) [] (chips.generated m ch c .values))
   run c (clock n stems) = clocks n stems c
   run c (clockMixed left right) =
       let n = min (length left) (length right) in
-      mixedTo c (mixes saturating c (clearedTo n left) (clearedTo n right))
-  run c (clockMixedInto left right) = mixedTo c (mixes saturating c left right)
-  run c (clockMixedIntoI32 left right) = mixedTo c (mixes wrapping c left right)
+      mixedTo c (mixes saturating c (clearedTo n left) (clearedTo n right)) done
+  run c (clockMixedInto left right) = mixedTo c (mixes saturating c left right) done
+  run c (clockMixedIntoI32 left right) =
+      let x = mixes wrapping c left right in
+      mixedTo c x (ended (endedIn c (withVoices c (x .voices))))
   run c (writeHead out) = gives c (lineAnswer (t .headText (c .version) (length (c .ram))) out)
   run c (readHead text) = headTold c (t .readHead text)
   run c (writeVoice ch out) = gives c (lineAnswer (t .voiceText ch (fieldsAt m c ch)) out)

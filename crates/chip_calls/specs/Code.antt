@@ -10,7 +10,7 @@ use Rattle.s3w2.specs.Registers.{writeRegisterCalled, writeRegisterBuffer, read
 use Rattle.s3w2.specs.Channels.{writeChannelWavetableCalled, readChannelWavetableAnswer, writeChannelControlCalled, writeChannelControlBuffer, readChannelControlCalled, writeChannelPcmRegCalled, readChannelPcmRegAnswer, wavetableLengthAnswer, interpolatesAnswer}
 use Rattle.s3w2.specs.Ram.{writePcmRamCalled, writePcmRamRam, readPcmRamAnswer}
 use Rattle.s3w2.specs.Sound.{generateSampleCalled, clockCalled, clockStems}
-use Rattle.s3w2.specs.Mixing.{mixedCalled, mixedLeft, mixedRight, clockMixedCalled, clockMixedLeft, clockMixedRight}
+use Rattle.s3w2.specs.Mixing.{mixedCalled, mixedI32Called, mixedLeft, mixedRight, clockMixedCalled, clockMixedLeft, clockMixedRight}
 use Rattle.session.specs.Heads.{writeHeadAnswer, writeHeadText, readHeadCalled}
 use Rattle.session.specs.Voices.{writeVoiceAnswer, writeVoiceText, readVoiceCalled, readVoiceQueues}
 use Rattle.s3w2.specs.declared.Called.{Called}
@@ -48,11 +48,11 @@ code m (clockMixed left right) =
     (clockMixedLeft (m .chip) (m .ram) (m .queues) left right ∷ clockMixedRight (m .chip) (m .ram) (m .queues) left right ∷ [])
     (clockMixedCallValues (m .chip) (m .ram) (m .queues) left right)
 code m (clockMixedInto left right) =
-    sounded (mixedCalled saturating (m .chip) (m .ram) (m .queues) left right) (m .ram) (m .queues)
+    sounded (mixedCalled (m .chip) (m .ram) (m .queues) left right) (m .ram) (m .queues)
     (mixedLeft saturating (m .chip) (m .ram) (m .queues) left right ∷ mixedRight saturating (m .chip) (m .ram) (m .queues) left right ∷ [])
     (mixedCallValues (m .chip) (m .ram) (m .queues) saturating left right)
 code m (clockMixedIntoI32 left right) =
-    sounded (mixedCalled wrapping (m .chip) (m .ram) (m .queues) left right) (m .ram) (m .queues)
+    sounded (mixedI32Called (m .chip) (m .ram) (m .queues) left right) (m .ram) (m .queues)
     (mixedLeft wrapping (m .chip) (m .ram) (m .queues) left right ∷ mixedRight wrapping (m .chip) (m .ram) (m .queues) left right ∷ [])
     (mixedCallValues (m .chip) (m .ram) (m .queues) wrapping left right)
 code m (writeHead out) =

@@ -14,7 +14,7 @@ use Rattle.voices.specs.declared.Core.{Core}
 use Rattle.s3w2.specs.declared.Chip.{Chip}
 use Rattle.s3w2.specs.declared.Called.{Called}
 use Rattle.s3w2.specs.declared.Answer.{Answer}
-use Rattle.s3w2.specs.declared.Answer.the-variants.{Done, Byte, Sample, Count, Flag, RamLength, QueueBuffer, NotAccepted, StemBuffer}
+use Rattle.s3w2.specs.declared.Answer.the-variants.{Done, Byte, Sample, Count, Flag, Ended, RamLength, QueueBuffer, NotAccepted, StemBuffer}
 use Rattle.s3w2.specs.Answers.{numberOf}
 use Rattle.session.specs.Answers.{numbersOf}
 use Rattle.session.specs.declared.LineAnswer.{LineAnswer}
@@ -26,7 +26,7 @@ use Rattle.slots.specs.Good.{FitChannel, SlotChipOk}
 use Rattle.chip_as_slots.specs.Whole.{slotChipOf}
 use Rattle.call_lists.specs.Runs.{Outcome}
 use Rattle.call_lists.specs.Calls as list
-use Rattle.call_lists.specs.Calls.{Reply, done, byte, count, flag, sample, refused}
+use Rattle.call_lists.specs.Calls.{Reply, done, byte, count, flag, sample, ended, refused}
 
 -- a chip with its lent RAM and queue buffer, as a world
 abbrev pub slotChip : Chip → List ℕ → List ℤ → SlotChip
@@ -62,9 +62,10 @@ left chip ram queues answer = record { next = machine chip ram queues; answer = 
 abbrev pub replyOf : Answer → Reply
 replyOf Done = done
 replyOf (Byte x) = byte x
-replyOf (Sample x) = sample x
+replyOf (Sample x e) = sample x e
 replyOf (Count x) = count x
 replyOf (Flag x) = flag x
+replyOf (Ended s) = ended s
 replyOf RamLength = refused (numberOf RamLength)
 replyOf QueueBuffer = refused (numberOf QueueBuffer)
 replyOf NotAccepted = refused (numberOf NotAccepted)

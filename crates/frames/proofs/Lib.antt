@@ -12,3 +12,4 @@ pub mod Framing
 pub mod Wells
 pub mod Heard
 pub mod OneVoice
+pub mod Endings

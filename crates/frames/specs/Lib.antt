@@ -1,4 +1,5 @@
 pub mod Ticking
 pub mod Turning
 pub mod Values
+pub mod Ending
 pub mod Kept

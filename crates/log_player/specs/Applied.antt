@@ -9,7 +9,7 @@ use Rattle.log.specs.declared.Line.the-variants.{Write, WriteRam, Read, Peek, C
 use Rattle.log.specs.Texts.{frameLines, readBackLine, peakOf}
 use Rattle.s3w2.specs.declared.Chip.{Chip}
 use Rattle.s3w2.specs.declared.Answer.{Answer}
-use Rattle.s3w2.specs.declared.Answer.the-variants.{Done, Byte, Sample, Count, Flag, RamLength, QueueBuffer, NotAccepted, StemBuffer}
+use Rattle.s3w2.specs.declared.Answer.the-variants.{Done, Byte, Sample, Count, Flag, Ended, RamLength, QueueBuffer, NotAccepted, StemBuffer}
 use Rattle.s3w2.specs.Fresh.{setVersionCalled}
 use Rattle.s3w2.specs.Ram.{writePcmRamCalled, writePcmRamRam}
 use Rattle.s3w2.specs.Registers.{writeRegisterCalled, writeRegisterBuffer, readRegisterCalled, peekRegisterAnswer}
@@ -21,9 +21,10 @@ use Rattle.log_player.specs.Worlds.{World, world, withChip}
 abbrev pub byteAnswered : Answer → ℕ
 byteAnswered (Byte x) = x
 byteAnswered Done = 0
-byteAnswered (Sample x) = 0
+byteAnswered (Sample x e) = 0
 byteAnswered (Count x) = 0
 byteAnswered (Flag x) = 0
+byteAnswered (Ended s) = 0
 byteAnswered RamLength = 0
 byteAnswered QueueBuffer = 0
 byteAnswered NotAccepted = 0

@@ -20,9 +20,10 @@ fn byte_of(answer: Answer) -> u8
     match answer {
         Answer::Byte(byte) => byte,
         Answer::Done => 0,
-        Answer::Sample(_) => 0,
+        Answer::Sample { value: _, ended: _ } => 0,
         Answer::Count(_) => 0,
         Answer::Flag(_) => 0,
+        Answer::Ended(_) => 0,
         Answer::RamLength => 0,
         Answer::QueueBuffer => 0,
         Answer::NotAccepted => 0,

@@ -12,7 +12,7 @@ use Rattle.log.proofs.Bytes.{FitLine}
 use Rattle.log.specs.Texts.{frameLines, readBackLine}
 use Rattle.version.specs.Versions.{versionOf}
 use Rattle.s3w2.specs.declared.Answer.{Answer}
-use Rattle.s3w2.specs.declared.Answer.the-variants.{Done, Byte, Sample, Count, Flag, RamLength, QueueBuffer, NotAccepted, StemBuffer}
+use Rattle.s3w2.specs.declared.Answer.the-variants.{Done, Byte, Sample, Count, Flag, Ended, RamLength, QueueBuffer, NotAccepted, StemBuffer}
 use Rattle.s3w2.specs.Registers.{readRegisterCalled, peekRegisterAnswer}
 use Rattle.log_player.specs.Worlds.{World}
 use Rattle.log_player.specs.Applied.{byteAnswered, silent, clockedPlayer, clockedText, effectOf, afterLine, printed}
@@ -61,16 +61,18 @@ byteIn (list.byte x) = x
 byteIn list.done = 0
 byteIn (list.count x) = 0
 byteIn (list.flag x) = 0
-byteIn (list.sample x) = 0
+byteIn (list.ended s) = 0
+byteIn (list.sample x e) = 0
 byteIn (list.refused n) = 0
 
 byte-in : (x : Answer) → byteAnswered x ≡ byteIn (replyOf x)
 unfolding byteIn
 byte-in (Byte x) = refl
 byte-in Done = refl
-byte-in (Sample x) = refl
+byte-in (Sample x e) = refl
 byte-in (Count x) = refl
 byte-in (Flag x) = refl
+byte-in (Ended s) = refl
 byte-in RamLength = refl
 byte-in QueueBuffer = refl
 byte-in NotAccepted = refl

@@ -1,6 +1,6 @@
 -- A call leaves an accepted state accepted. Assumes nothing beyond the ranges that the types give.
 use mathlib.Core.Path.{_≡_, refl, sym, ap, _∙_, subst}
-use mathlib.Core.Bool.{true}
+use mathlib.Core.Bool.{true, false}
 use mathlib.Core.List.{List, [], _∷_}
 use Prim.Native.Nat.{ℕ, zero, suc, _+_, _*_, _<_}
 use native.Mathlib.Omega.{arith}
@@ -29,7 +29,7 @@ use Rattle.frames.proofs.Framing.{frames-turns}
 use Rattle.frames.proofs.Wells.{Well, turned-well}
 use Rattle.sides.specs.Sides.{saturating}
 use Rattle.s3w2.specs.declared.Answer.{Answer}
-use Rattle.s3w2.specs.declared.Answer.the-variants.{Done, Byte, Sample}
+use Rattle.s3w2.specs.declared.Answer.the-variants.{Done, Byte, Sample, Ended}
 use Rattle.s3w2.specs.declared.Called.{Called}
 use Rattle.s3w2.specs.declared.Chip.{Chip}
 use Rattle.s3w2.specs.Answers.{isDone, answered, called}
@@ -39,8 +39,8 @@ use Rattle.s3w2.specs.Fresh.{madeCalled, setVersionCalled, resetCalled, 
 use Rattle.s3w2.specs.Ram.{writePcmRamCalled}
 use Rattle.s3w2.specs.Channels.{writeChannelWavetableCalled, writeChannelControlCalled, readChannelControlCalled, writeChannelPcmRegCalled}
 use Rattle.s3w2.specs.Registers.{writeRegisterCalled, readRegisterCalled}
-use Rattle.s3w2.specs.Sound.{oneTick, framed, generateSampleCalled, clockCalled}
-use Rattle.s3w2.specs.Mixing.{Mix, mix, mixed, mixedSides, mixedCalled, clearedTo, served, clockMixedCalled}
+use Rattle.s3w2.specs.Sound.{oneTick, oneTickEnds, framed, framedEnded, generateSampleCalled, clockCalled}
+use Rattle.s3w2.specs.Mixing.{Mix, mix, mixed, mixedSides, mixedAnswered, clearedTo, served, clockMixedCalled}
 use Rattle.s3w2.proofs.Refused.{nothing-amiss}
 
 -- ---- a chip that is made
@@ -176,23 +176,23 @@ module _ (chip : Chip) (ram : List ℕ) (queues : List ℤ) (ok : acceptsChip ch
       let t = oneTick chip ram queues ch in
       let w = turned-well (chip .version) ram queues 1 (omega arith) (omega arith) bytes (parts (chip .version) ram queues bytes entries) ch (chip .core) chip-well 1 in
       called-kept chip (length ram) ok (soundRefusal chip (length ram) (length queues)) _
-      (cond-by (λ (u : Called). acceptsChip (u .chip) (length ram) ≡ true) (ltb ch numChannels) (answered (withCore chip (t .core)) (Sample (t .sample))) (answered chip (Sample (pos 0)))
+      (cond-by (λ (u : Called). acceptsChip (u .chip) (length ram) ≡ true) (ltb ch numChannels) (answered (withCore chip (t .core)) (Sample (t .sample) (oneTickEnds chip ram queues ch))) (answered chip (Sample (pos 0) false))
       (λ e. core-accepted (t .core) (chip .version) (length ram) (w .ready .accepted)) (λ e. ok))
 
   pub clock-kept : (n stems : ℕ) → acceptsChip (clockCalled chip ram queues n stems .chip) (length ram) ≡ true
   unfolding clockCalled
   clock-kept n stems =
-      well-kept (clockRefusal chip (length ram) (length queues) n stems) Done (framed chip ram queues n .core) (frames-well (chip .version) ram queues bytes entries (chip .core) chip-well n)
+      well-kept (clockRefusal chip (length ram) (length queues) n stems) (Ended (framedEnded chip ram queues n)) (framed chip ram queues n .core) (frames-well (chip .version) ram queues bytes entries (chip .core) chip-well n)
 
   -- `clock_mixed_into`, `clock_mixed_into_i32`
-  pub mixed-kept : (plus : ℤ → ℤ → ℤ) (left right : List ℤ) → acceptsChip (mixedCalled plus chip ram queues left right .chip) (length ram) ≡ true
-  unfolding mixedCalled
-  mixed-kept plus left right =
-      well-kept (soundRefusal chip (length ram) (length queues)) Done (mixedSides plus chip ram queues left right .core)
+  pub mixed-kept : (plus : ℤ → ℤ → ℤ) (left right : List ℤ) (answer : Answer) → acceptsChip (mixedAnswered plus chip ram queues left right answer .chip) (length ram) ≡ true
+  unfolding mixedAnswered
+  mixed-kept plus left right answer =
+      well-kept (soundRefusal chip (length ram) (length queues)) answer (mixedSides plus chip ram queues left right .core)
       (mixed-well (chip .version) ram queues bytes entries plus (mix (chip .core) left right) chip-well _)
 
   pub clock-mixed-kept : (left right : List ℤ) → acceptsChip (clockMixedCalled chip ram queues left right .chip) (length ram) ≡ true
   unfolding clockMixedCalled
   clock-mixed-kept left right =
       let n = served chip ram queues left right in
-      mixed-kept saturating (clearedTo n left) (clearedTo n right)
+      mixed-kept saturating (clearedTo n left) (clearedTo n right) Done

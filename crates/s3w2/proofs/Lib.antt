@@ -7,3 +7,4 @@ pub mod Kept
 pub mod Listed
 pub mod Bounds
 pub mod Ranges
+pub mod Endings

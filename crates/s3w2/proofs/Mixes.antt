@@ -131,7 +131,7 @@ module _ (chip : Chip) (ram : List ℕ) (queues left right : List ℤ) (n : ℕ)
   Rt = clearedTo (min (length left) (length right)) right
 
   pub record MixedCleared : Type 0 where
-    pub called : mixedCalled saturating chip ram queues l r ≡ mixedCalled saturating chip ram queues L Rt
+    pub called : mixedCalled chip ram queues l r ≡ mixedCalled chip ram queues L Rt
     pub onLeft : mixedLeft saturating chip ram queues l r ≡ mixedLeft saturating chip ram queues L Rt
     pub onRight : mixedRight saturating chip ram queues l r ≡ mixedRight saturating chip ram queues L Rt
 
@@ -140,7 +140,7 @@ module _ (chip : Chip) (ram : List ℕ) (queues left right : List ℤ) (n : ℕ)
       let fl : l ≡ L = el ∙ ap (λ (k : ℕ). clearedTo k left) e in
       let fr : r ≡ Rt = er ∙ ap (λ (k : ℕ). clearedTo k right) e in
       record {
-        called = ap (λ (x : List ℤ). mixedCalled saturating chip ram queues x r) fl ∙ ap (mixedCalled saturating chip ram queues L) fr;
+        called = ap (λ (x : List ℤ). mixedCalled chip ram queues x r) fl ∙ ap (mixedCalled chip ram queues L) fr;
         onLeft = ap (λ (x : List ℤ). mixedLeft saturating chip ram queues x r) fl ∙ ap (mixedLeft saturating chip ram queues L) fr;
         onRight = ap (λ (x : List ℤ). mixedRight saturating chip ram queues x r) fl ∙ ap (mixedRight saturating chip ram queues L) fr;
       }

@@ -3,7 +3,7 @@ use mathlib.Core.Bool.{Bool, true, false, cond}
 use mathlib.Core.List.{List, [], _∷_}
 use Prim.Native.Nat.{ℕ}
 use Rattle.s3w2.specs.declared.Answer.{Answer}
-use Rattle.s3w2.specs.declared.Answer.the-variants.{Done, Byte, Sample, Count, Flag, RamLength, QueueBuffer, NotAccepted, StemBuffer}
+use Rattle.s3w2.specs.declared.Answer.the-variants.{Done, Byte, Sample, Count, Flag, Ended, RamLength, QueueBuffer, NotAccepted, StemBuffer}
 use Rattle.s3w2.specs.declared.Called.{Called}
 use Rattle.s3w2.specs.declared.Chip.{Chip}
 
@@ -11,9 +11,10 @@ use Rattle.s3w2.specs.declared.Chip.{Chip}
 abbrev pub numberOf : Answer → List ℕ
 numberOf Done = []
 numberOf (Byte x) = []
-numberOf (Sample x) = []
+numberOf (Sample x e) = []
 numberOf (Count x) = []
 numberOf (Flag x) = []
+numberOf (Ended x) = []
 numberOf RamLength = 1 ∷ []
 numberOf QueueBuffer = 2 ∷ []
 numberOf NotAccepted = 3 ∷ []
@@ -23,9 +24,10 @@ numberOf StemBuffer = 14 ∷ []
 abbrev pub isDone : Answer → Bool
 isDone Done = true
 isDone (Byte x) = false
-isDone (Sample x) = false
+isDone (Sample x e) = false
 isDone (Count x) = false
 isDone (Flag x) = false
+isDone (Ended x) = false
 isDone RamLength = false
 isDone QueueBuffer = false
 isDone NotAccepted = false

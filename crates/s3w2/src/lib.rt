@@ -20,9 +20,12 @@ pub struct Chip {
 pub enum Answer {
     Done,
     Byte(u8),
-    Sample(i16),
+    // A tick's sample, and whether the tick turned its voice off.
+    Sample { value: i16, ended: bool },
     Count(usize),
     Flag(bool),
+    // The voices that some frames turned off, as a set: bit n for channel n.
+    Ended(u8),
     RamLength,
     QueueBuffer,
     NotAccepted,

@@ -6,7 +6,7 @@ ghost use lib.ListN.{length};
 ghost use Rattle.voices.specs.Accepted.{acceptsCore};
 ghost use Rattle.frames.specs.Turning.{runOf};
 ghost use Rattle.sides.specs.Sides.{saturating, wrapping};
-ghost use Rattle.s3w2.specs.Mixing.{clearedTo, heardOn, mixedCalled, mixedLeft, mixedRight, clockMixedCalled, clockMixedLeft, clockMixedRight};
+ghost use Rattle.s3w2.specs.Mixing.{clearedTo, heardOn, mixedCalled, mixedI32Called, mixedLeft, mixedRight, clockMixedCalled, clockMixedLeft, clockMixedRight};
 use crate::Answer;
 use crate::Called;
 use crate::Chip;
@@ -115,7 +115,7 @@ impl Chip {
         left: &mut [i16],
         right: &mut [i16],
     ) -> Called
-        ensures called { λ r. ⌜ r ≡ mixedCalled saturating self (now (ram .entry)) (now (queues .entry)) (now (left .entry)) (now (right .entry)) ⌝ }
+        ensures called { λ r. ⌜ r ≡ mixedCalled self (now (ram .entry)) (now (queues .entry)) (now (left .entry)) (now (right .entry)) ⌝ }
         ensures queues { λ _. ⌜ now (queues .exit) ≡ now (queues .entry) ⌝ }
         ensures left { λ _. ⌜ now (left .exit)
             ≡ mixedLeft saturating self (now (ram .entry)) (now (queues .entry)) (now (left .entry)) (now (right .entry)) ⌝ }
@@ -150,7 +150,7 @@ impl Chip {
         self.with_core(core, Answer::Done)
     }
 
-    // The frames are added to sides of 32 bits, and wrap.
+    // The frames are added to sides of 32 bits, and wrap. The answer is the voices that the frames turned off.
     pub fn clock_mixed_into_i32(
         self,
         ram: &[u8],
@@ -158,7 +158,7 @@ impl Chip {
         left: &mut [i32],
         right: &mut [i32],
     ) -> Called
-        ensures called { λ r. ⌜ r ≡ mixedCalled wrapping self (now (ram .entry)) (now (queues .entry)) (now (left .entry)) (now (right .entry)) ⌝ }
+        ensures called { λ r. ⌜ r ≡ mixedI32Called self (now (ram .entry)) (now (queues .entry)) (now (left .entry)) (now (right .entry)) ⌝ }
         ensures queues { λ _. ⌜ now (queues .exit) ≡ now (queues .entry) ⌝ }
         ensures left { λ _. ⌜ now (left .exit)
             ≡ mixedLeft wrapping self (now (ram .entry)) (now (queues .entry)) (now (left .entry)) (now (right .entry)) ⌝ }
@@ -171,6 +171,7 @@ impl Chip {
         }
         let version = self.version;
         let mut core = self.core;
+        let was = core.actives();
         let n = num::least(left.len(), right.len());
         let mut stems = [0i16; STEMS * CHUNK];
         let mut done = 0;
@@ -190,6 +191,6 @@ impl Chip {
             );
             done += count;
         }
-        self.with_core(core, Answer::Done)
+        self.with_core(core, Answer::Ended(core.ended(was)))
     }
 }

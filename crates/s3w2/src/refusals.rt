@@ -18,9 +18,10 @@ pub(crate) fn is_done(answer: Answer) -> bool
     match answer {
         Answer::Done => true,
         Answer::Byte(_) => false,
-        Answer::Sample(_) => false,
+        Answer::Sample { value: _, ended: _ } => false,
         Answer::Count(_) => false,
         Answer::Flag(_) => false,
+        Answer::Ended(_) => false,
         Answer::RamLength => false,
         Answer::QueueBuffer => false,
         Answer::NotAccepted => false,
@@ -46,9 +47,10 @@ impl Answer {
         match self {
             Answer::Done => 0,
             Answer::Byte(_) => 0,
-            Answer::Sample(_) => 0,
+            Answer::Sample { value: _, ended: _ } => 0,
             Answer::Count(_) => 0,
             Answer::Flag(_) => 0,
+            Answer::Ended(_) => 0,
             Answer::RamLength => 1,
             Answer::QueueBuffer => 2,
             Answer::NotAccepted => 3,

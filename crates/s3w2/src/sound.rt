@@ -9,7 +9,7 @@ use crate::refusals::is_done;
 use sizes::LAST_CHANNEL;
 
 impl Chip {
-    // A tick of one voice; a channel above 7 gives 0.
+    // A tick of one voice, and whether it turned the voice off; a channel above 7 gives 0 and no.
     pub fn generate_sample(self, ram: &[u8], queues: &mut [i16], ch: usize) -> Called
         ensures called { λ r. ⌜ r ≡ generateSampleCalled self (now (ram .entry)) (now (queues .entry)) ch ⌝ }
         ensures queues { λ _. ⌜ now (queues .exit) ≡ now (queues .entry) ⌝ }
@@ -19,14 +19,27 @@ impl Chip {
             return self.answers(refusal);
         }
         if LAST_CHANNEL < ch {
-            return self.answers(Answer::Sample(0));
+            return self.answers(Answer::Sample {
+                value: 0,
+                ended: false,
+            });
         }
         let version = self.version;
-        let next = frames::tick(self.core, version, ram, queues, ch);
-        self.with_core(next.core, Answer::Sample(next.sample))
+        let core = self.core;
+        let was = core.is_active(ch);
+        let turned = frames::tick(core, version, ram, queues, ch);
+        let next = turned.core;
+        let ended = endings::turned_off(was, next.is_active(ch));
+        self.with_core(
+            next,
+            Answer::Sample {
+                value: turned.sample,
+                ended,
+            },
+        )
     }
 
-    // Stems: 16 a frame, channel 0 left, channel 0 right, channel 1 left and so on.
+    // Stems: 16 a frame, channel 0 left, channel 0 right, channel 1 left and so on. The answer is the voices that the frames turned off.
     pub fn clock(self, ram: &[u8], queues: &mut [i16], frames: usize, stems: &mut [i16]) -> Called
         ensures called { λ r. ⌜ r ≡ clockCalled self (now (ram .entry)) (now (queues .entry)) frames (length (now (stems .entry))) ⌝ }
         ensures queues { λ _. ⌜ now (queues .exit) ≡ now (queues .entry) ⌝ }
@@ -37,7 +50,10 @@ impl Chip {
             return self.answers(refusal);
         }
         let version = self.version;
-        let next = frames::run(self.core, version, ram, queues, 0, 4, stems);
-        self.with_core(next.core, Answer::Done)
+        let core = self.core;
+        let was = core.actives();
+        let turned = frames::run(core, version, ram, queues, 0, 4, stems);
+        let next = turned.core;
+        self.with_core(next, Answer::Ended(next.ended(was)))
     }
 }

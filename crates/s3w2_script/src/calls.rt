@@ -10,10 +10,11 @@ use sizes::QUEUE_BUFFER;
 use version::Parsed;
 use version::SguVersion;
 
-// What is printed of an answer: nothing, a value, or the number of a refusal.
+// What is printed of an answer: nothing, a value, two, or the number of a refusal.
 enum Shown {
     Nothing,
     Value(i64),
+    Two(i64, i64),
     Refusal(u64),
 }
 
@@ -21,9 +22,13 @@ fn shown_of(answer: Answer) -> Shown {
     match answer {
         Answer::Done => Shown::Nothing,
         Answer::Byte(x) => Shown::Value(x as i64),
-        Answer::Sample(x) => Shown::Value(fields::long_sample(x)),
+        Answer::Sample { value, ended } => Shown::Two(
+            fields::long_sample(value),
+            fields::flag_number(ended) as i64,
+        ),
         Answer::Count(x) => Shown::Value((x % 4294967296) as i64),
         Answer::Flag(x) => Shown::Value(fields::flag_number(x) as i64),
+        Answer::Ended(x) => Shown::Value(x as i64),
         Answer::RamLength => Shown::Refusal(1),
         Answer::QueueBuffer => Shown::Refusal(2),
         Answer::NotAccepted => Shown::Refusal(3),
@@ -41,6 +46,10 @@ pub(crate) fn put_answer(out: &mut [u8], at: usize, answer: Answer) -> usize {
     match s {
         Shown::Nothing => at,
         Shown::Value(x) => fields::put_number(out, at, x),
+        Shown::Two(x, y) => {
+            let end = fields::put_number(&mut *out, at, x);
+            fields::put_number(out, end, y)
+        }
         Shown::Refusal(n) => put_refusal(out, at, n),
     }
 }

@@ -13,15 +13,23 @@ fn is_done(answer: Answer) -> bool {
     true
 }
 
-// Puts the samples where a call is done, and its refusal where it is not.
-fn put_stems(out: &mut [u8], at: usize, answer: Answer, stems: &[i16; 8192], n: usize) -> usize {
-    if is_done(answer) {
-        return fields::put_samples(out, at, stems, 0, n);
-    }
-    calls::put_answer(out, at, answer)
+fn tells_endings(answer: Answer) -> bool {
+    let Answer::Ended(_) = answer else {
+        return false;
+    };
+    true
 }
 
-// The same of two sides, of as many samples as is said.
+// Puts the voices that ended and the samples, or the call's refusal.
+fn put_stems(out: &mut [u8], at: usize, answer: Answer, stems: &[i16; 8192], n: usize) -> usize {
+    let end = calls::put_answer(&mut *out, at, answer);
+    if tells_endings(answer) {
+        return fields::put_samples(out, end, stems, 0, n);
+    }
+    end
+}
+
+// Puts the samples of two sides, of as many as is said, where a call is done, and its refusal where it is not.
 fn put_sides(
     out: &mut [u8],
     at: usize,
@@ -38,6 +46,7 @@ fn put_sides(
     calls::put_answer(out, at, answer)
 }
 
+// The voices that ended, and sides of 32 bits.
 fn put_wide_sides(
     out: &mut [u8],
     at: usize,
@@ -47,11 +56,12 @@ fn put_wide_sides(
     right: &[i32; 1024],
     r: usize,
 ) -> usize {
-    if is_done(answer) {
-        let end = fields::put_wide_samples(&mut *out, at, left, l);
-        return fields::put_wide_samples(out, end, right, r);
+    let end = calls::put_answer(&mut *out, at, answer);
+    if tells_endings(answer) {
+        let middle = fields::put_wide_samples(&mut *out, end, left, l);
+        return fields::put_wide_samples(out, middle, right, r);
     }
-    calls::put_answer(out, at, answer)
+    end
 }
 
 fn clocked(chip: Chip, frames: usize, ram: &[u8], queues: &mut [i16], stems: &mut [i16]) -> Called {

@@ -8,7 +8,7 @@ use native.Mathlib.Omega.{arith}
 use native.Mathlib.Decide.{decLt}
 use lib.IntN.{pos}
 use lib.ListN.{length, getD, set, replicate}
-use lib.Seq.{sets}
+use lib.Seq.{sets, getD-set-same, getD-set-other}
 use Rattle.num.proofs.Choice.{both, together, never}
 use Rattle.version.specs.declared.SguVersion.{SguVersion}
 use Rattle.stream.specs.Cache.{emptied}
@@ -93,3 +93,15 @@ module _ (l : List Channel) (version : SguVersion) (ram : ℕ) where
       at : (t : Bool) → acceptsFirst n l version ram ≡ t → false ≡ acceptsFirst n l version ram
       at true f = never (sym (first-each n j f h) ∙ e)
       at false f = sym f
+
+-- ---- which channels are active, one more
+pub flags-more : (channels : List Channel) (flags : List Bool) (n : ℕ) → length flags ≡ 8 → n < 8 → ((ch : ℕ) → ch < n → getD flags ch false ≡ getD channels ch noChannel .pcm .active)
+    → (ch : ℕ) → ch < n + 1 → getD (set flags n (getD channels n noChannel .pcm .active)) ch false ≡ getD channels ch noChannel .pcm .active
+flags-more channels flags n long h e ch g =
+    elim (decLt ch n) [
+      | yes y ↦ getD-set-other flags n ch _ false (λ z. absurd (omega arith)) ∙ e ch y
+      | no y ↦ ap (λ (j : ℕ). getD (set flags n (getD channels n noChannel .pcm .active)) j false) (same ch n g y) ∙ getD-set-same flags n _ false (omega (arith, long)) ∙ ap (λ (j : ℕ). getD channels j noChannel .pcm .active) (sym (same ch n g y))
+    ]
+  where
+    same : (a b : ℕ) → a < b + 1 → (a < b → ⊥) → a ≡ b
+    same a b x y = omega arith

@@ -1,5 +1,6 @@
 pub mod Addresses
 pub mod Core
+pub mod Actives
 pub mod Writes
 pub mod Reads
 pub mod Accepted

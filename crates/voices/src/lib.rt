@@ -1,5 +1,6 @@
 // Eight voices with the tables beside them.
 mod accepted;
+mod actives;
 mod addresses;
 mod fresh;
 mod lists;

@@ -1,7 +1,7 @@
 use borrow.Author.Needs.{needs}
 use mathlib.Core.Path.{refl, sym, _∙_}
 use borrow.Author.Tests.{not-true, not-false}
-use Rattle.s3w2.specs.Mixing.{mixedCalled, mixedLeft, mixedRight, clockMixedCalled, clockMixedLeft, clockMixedRight}
+use Rattle.s3w2.specs.Mixing.{mixedAnswered, mixedLeft, mixedRight, clockMixedCalled, clockMixedLeft, clockMixedRight}
 use Rattle.s3w2.proofs.Refused.{away, stays, goes-on}
 use Rattle.s3w2.proofs.Mixes.{mixed-cleared}
 use Rattle.s3w2.proofs.Chip.clock_mixed.Statement.{statement}
@@ -17,7 +17,7 @@ answers-requires : tie.Need-answers-requires
 answers-requires c κs = search needs
 
 returns : tie.Need-returns
-unfolding clockMixedCalled clockMixedLeft clockMixedRight mixedCalled mixedLeft mixedRight
+unfolding clockMixedCalled clockMixedLeft clockMixedRight mixedAnswered mixedLeft mixedRight
 returns c = (c .answers .ensures ∙ away (c .before .before .before .refusal-of-sound .result) _ (c .before .before .before .refusal-of-sound .ensures) _ _ (sym (c .before .before .is-done .ensures) ∙ not-true _ (c .before .if1 .taken)), (refl, (stays (c .before .before .before .refusal-of-sound .result) _ (c .before .before .before .refusal-of-sound .ensures) _ _ (sym (c .before .before .is-done .ensures) ∙ not-true _ (c .before .if1 .taken)), stays (c .before .before .before .refusal-of-sound .result) _ (c .before .before .before .refusal-of-sound .ensures) _ _ (sym (c .before .before .is-done .ensures) ∙ not-true _ (c .before .if1 .taken)))))
 
 least-requires : tie.Need-least-requires

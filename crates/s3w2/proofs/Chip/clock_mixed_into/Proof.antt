@@ -13,7 +13,7 @@ use Rattle.sides.specs.Sides.{saturating}
 use Rattle.s3w2.specs.declared.Answer.the-variants.{Done}
 use Rattle.s3w2.specs.Answers.{answered}
 use Rattle.s3w2.specs.Chips.{withCore}
-use Rattle.s3w2.specs.Mixing.{Mix, mix, mixedCalled, mixedLeft, mixedRight}
+use Rattle.s3w2.specs.Mixing.{Mix, mix, mixedAnswered, mixedLeft, mixedRight}
 use Rattle.s3w2.proofs.Refused.{away, stays, goes-on, goes-called}
 use Rattle.s3w2.proofs.Cases.{all-there}
 use Rattle.s3w2.proofs.Mixes.{Going, prefix-length, rest-length, begin, turn, over}
@@ -37,7 +37,7 @@ answers-requires : tie.Need-answers-requires Inv-loop μ-loop
 answers-requires c κs = search needs
 
 returns : tie.Need-returns Inv-loop μ-loop
-unfolding mixedCalled mixedLeft mixedRight
+unfolding mixedAnswered mixedLeft mixedRight
 returns c = (c .answers .ensures ∙ away (c .before .before .before .refusal-of-sound .result) _ (c .before .before .before .refusal-of-sound .ensures) _ _ (sym (c .before .before .is-done .ensures) ∙ not-true _ (c .before .if1 .taken)), (refl, (stays (c .before .before .before .refusal-of-sound .result) _ (c .before .before .before .refusal-of-sound .ensures) _ _ (sym (c .before .before .is-done .ensures) ∙ not-true _ (c .before .if1 .taken)), stays (c .before .before .before .refusal-of-sound .result) _ (c .before .before .before .refusal-of-sound .ensures) _ _ (sym (c .before .before .is-done .ensures) ∙ not-true _ (c .before .if1 .taken)))))
 
 least-requires : tie.Need-least-requires Inv-loop μ-loop
@@ -106,7 +106,7 @@ same-length-3 : tie.Need-same-length-3 Inv-loop μ-loop
 same-length-3 c = c .before .before .loop .inv .0 .rights
 
 returns-2 : tie.Need-returns-2 Inv-loop μ-loop
-unfolding mixedCalled mixedLeft mixedRight
+unfolding mixedAnswered mixedLeft mixedRight
 returns-2 c =
     let l = c .before .before .loop in
     let a = c .before .before .before .before .before .before .before .before .before .args in

@@ -1,7 +1,7 @@
 use borrow.Author.Needs.{needs}
-use mathlib.Core.Path.{_≡_, refl, sym, ap, _∙_}
+use mathlib.Core.Path.{_≡_, refl, sym, ap, ap₂, _∙_}
 use mathlib.Core.Bool.{true}
-use Prim.Native.Nat.{_+_, _-_, _*_, _≤_}
+use Prim.Native.Nat.{ℕ, _+_, _-_, _*_, _≤_, min}
 use native.Mathlib.Omega.{arith}
 use lib.Dec.{eqb}
 use mathlib.Core.List.{List, _++_}
@@ -10,10 +10,11 @@ use lib.ListN.{length, take, drop, length-replicate}
 use borrow.Author.Tests.{not-true, not-false}
 use Rattle.sizes.specs.Sizes.{queueBuffer}
 use Rattle.sides.specs.Sides.{wrapping}
-use Rattle.s3w2.specs.declared.Answer.the-variants.{Done}
+use Rattle.s3w2.specs.declared.Answer.the-variants.{Ended}
 use Rattle.s3w2.specs.Answers.{answered}
 use Rattle.s3w2.specs.Chips.{withCore}
-use Rattle.s3w2.specs.Mixing.{Mix, mix, mixedCalled, mixedLeft, mixedRight}
+use Rattle.s3w2.specs.Mixing.{Mix, mix, mixedAnswered, mixedLeft, mixedRight}
+use Rattle.s3w2.proofs.Endings.{mixed-core, frames-ended}
 use Rattle.s3w2.proofs.Refused.{away, stays, goes-on, goes-called}
 use Rattle.s3w2.proofs.Cases.{all-there}
 use Rattle.s3w2.proofs.Mixes.{Going, prefix-length, rest-length, begin, turn, over}
@@ -21,11 +22,11 @@ use Rattle.s3w2.proofs.Chip.clock_mixed_into_i32.Statement.{statement}
 use Rattle.s3w2.proofs.Chip.clock_mixed_into_i32.Tie as tie
 
 abbrev Inv-loop : tie.InvT-loop
-Inv-loop self ram queues₀ left₀ right₀ version core₀ n stems₀ done₀ queues left right core stems done =
+Inv-loop self ram queues₀ left₀ right₀ version core₀ was n stems₀ done₀ queues left right core stems done =
     Going wrapping version ram queues₀ n (mix core₀ left₀ right₀) done (mix core left right) × (length stems ≡ 4096) × (eqb (length queues₀) queueBuffer ≡ true) × (n ≤ length left₀) × (queues ≡ queues₀)
 
 abbrev μ-loop : tie.MeasureT-loop
-μ-loop self ram queues₀ left₀ right₀ version core₀ n stems₀ done₀ queues left right core stems done = n - done
+μ-loop self ram queues₀ left₀ right₀ version core₀ was n stems₀ done₀ queues left right core stems done = n - done
 
 refusal-of-sound-requires : tie.Need-refusal-of-sound-requires Inv-loop μ-loop
 refusal-of-sound-requires c κs = search needs
@@ -37,16 +38,19 @@ answers-requires : tie.Need-answers-requires Inv-loop μ-loop
 answers-requires c κs = search needs
 
 returns : tie.Need-returns Inv-loop μ-loop
-unfolding mixedCalled mixedLeft mixedRight
+unfolding mixedAnswered mixedLeft mixedRight
 returns c = (c .answers .ensures ∙ away (c .before .before .before .refusal-of-sound .result) _ (c .before .before .before .refusal-of-sound .ensures) _ _ (sym (c .before .before .is-done .ensures) ∙ not-true _ (c .before .if1 .taken)), (refl, (stays (c .before .before .before .refusal-of-sound .result) _ (c .before .before .before .refusal-of-sound .ensures) _ _ (sym (c .before .before .is-done .ensures) ∙ not-true _ (c .before .if1 .taken)), stays (c .before .before .before .refusal-of-sound .result) _ (c .before .before .before .refusal-of-sound .ensures) _ _ (sym (c .before .before .is-done .ensures) ∙ not-true _ (c .before .if1 .taken)))))
+
+actives-requires : tie.Need-actives-requires Inv-loop μ-loop
+actives-requires c κs = search needs
 
 least-requires : tie.Need-least-requires Inv-loop μ-loop
 least-requires c κs = search needs
 
 loop-holds : tie.Need-loop-holds Inv-loop μ-loop
 loop-holds c =
-    let a = c .before .before .before .before .before .before .args in
-    let t = all-there _ _ _ _ (c .before .before .before .before .refusal-of-sound .result) (c .before .before .before .before .refusal-of-sound .ensures) (sym (c .before .before .before .is-done .ensures) ∙ not-false _ (c .before .before .if1 .left)) in
+    let a = c .before .before .before .before .before .before .before .args in
+    let t = all-there _ _ _ _ (c .before .before .before .before .before .refusal-of-sound .result) (c .before .before .before .before .before .refusal-of-sound .ensures) (sym (c .before .before .before .before .is-done .ensures) ∙ not-false _ (c .before .before .before .if1 .left)) in
     (begin wrapping (a .self .version) (a .ram .now) (a .queues .now) (c .least .result) (mix (a .self .core) (a .left .now) (a .right .now)) (c .least .ensures) (t .accepted), length-replicate 4096 (pos 0), t .lent, omega (arith, c .least .ensures), refl)
 
 sub-least : tie.Need-sub-least Inv-loop μ-loop
@@ -76,7 +80,7 @@ loop-less c = omega (arith, c .before .before .before .before .before .before .b
 loop-again : tie.Need-loop-again Inv-loop μ-loop
 loop-again c =
     let l = c .before .before .before .before .before .before .before .before .before .before .before .loop in
-    let a = c .before .before .before .before .before .before .before .before .before .before .before .before .before .before .before .before .before .before .args in
+    let a = c .before .before .before .before .before .before .before .before .before .before .before .before .before .before .before .before .before .before .before .args in
     let n = c .before .before .before .before .before .before .before .before .before .before .before .before .least .result in
     let m = c .before .before .before .before .before .before .before .before .before .least2 .result in
     let f = c .before .before .before .before .add-frames-i32 in
@@ -93,27 +97,33 @@ loop-again c =
       f .ensures .1 .1 .1 .1 ∙ l .inv .4,
     )
 
+ended-requires : tie.Need-ended-requires Inv-loop μ-loop
+ended-requires c κs = search needs
+
 with-core-requires : tie.Need-with-core-requires Inv-loop μ-loop
 with-core-requires c κs = search needs
 
 same-length : tie.Need-same-length Inv-loop μ-loop
-same-length c = ap length (c .before .before .loop .inv .4)
+same-length c = ap length (c .before .before .before .loop .inv .4)
 
 same-length-2 : tie.Need-same-length-2 Inv-loop μ-loop
-same-length-2 c = c .before .before .loop .inv .0 .lefts
+same-length-2 c = c .before .before .before .loop .inv .0 .lefts
 
 same-length-3 : tie.Need-same-length-3 Inv-loop μ-loop
-same-length-3 c = c .before .before .loop .inv .0 .rights
+same-length-3 c = c .before .before .before .loop .inv .0 .rights
 
 returns-2 : tie.Need-returns-2 Inv-loop μ-loop
-unfolding mixedCalled mixedLeft mixedRight
+unfolding mixedAnswered mixedLeft mixedRight
 returns-2 c =
-    let l = c .before .before .loop in
-    let a = c .before .before .before .before .before .before .before .before .before .args in
-    let n = c .before .before .before .least .result in
-    let o = over wrapping (a .self .version) (a .ram .now) (a .queues .now) n (mix (a .self .core) (a .left .now) (a .right .now)) (l .done) (mix (l .core) (l .left) (l .right)) (l .inv .0) (c .before .loop-test .left) in (
-      goes-called (c .before .before .before .before .before .before .before .refusal-of-sound .result) _ (c .before .before .before .before .before .before .before .refusal-of-sound .ensures) _ _ _ (sym (c .before .before .before .before .before .before .is-done .ensures) ∙ not-false _ (c .before .before .before .before .before .if1 .left)) (c .with-core .ensures ∙ ap (λ (m : Mix). answered (withCore (a .self) (m .core)) Done) o),
-      (l .inv .4, (ap (λ (m : Mix). m .left) o ∙ goes-on (c .before .before .before .before .before .before .before .refusal-of-sound .result) _ (c .before .before .before .before .before .before .before .refusal-of-sound .ensures) _ _ (sym (c .before .before .before .before .before .before .is-done .ensures) ∙ not-false _ (c .before .before .before .before .before .if1 .left)), ap (λ (m : Mix). m .right) o ∙ goes-on (c .before .before .before .before .before .before .before .refusal-of-sound .result) _ (c .before .before .before .before .before .before .before .refusal-of-sound .ensures) _ _ (sym (c .before .before .before .before .before .before .is-done .ensures) ∙ not-false _ (c .before .before .before .before .before .if1 .left)))),
+    let l = c .before .before .before .loop in
+    let a = c .before .before .before .before .before .before .before .before .before .before .before .args in
+    let n = c .before .before .before .before .least .result in
+    let o = over wrapping (a .self .version) (a .ram .now) (a .queues .now) n (mix (a .self .core) (a .left .now) (a .right .now)) (l .done) (mix (l .core) (l .left) (l .right)) (l .inv .0) (c .before .before .loop-test .left) in
+    let count : ℕ = min (length (a .left .now)) (length (a .right .now)) in
+    let next = ap (λ (m : Mix). m .core) o ∙ mixed-core (a .self .version) (a .ram .now) (a .queues .now) wrapping (mix (a .self .core) (a .left .now) (a .right .now)) count in
+    let set = c .before .ended .ensures ∙ frames-ended (a .self .version) (a .ram .now) (a .queues .now) _ (a .self .core) _ count (c .before .before .before .before .before .actives .ensures) next in (
+      goes-called (c .before .before .before .before .before .before .before .before .before .refusal-of-sound .result) _ (c .before .before .before .before .before .before .before .before .before .refusal-of-sound .ensures) _ _ _ (sym (c .before .before .before .before .before .before .before .before .is-done .ensures) ∙ not-false _ (c .before .before .before .before .before .before .before .if1 .left)) (c .with-core .ensures ∙ ap₂ (λ (m : Mix) (x : ℕ). answered (withCore (a .self) (m .core)) (Ended x)) o set),
+      (l .inv .4, (ap (λ (m : Mix). m .left) o ∙ goes-on (c .before .before .before .before .before .before .before .before .before .refusal-of-sound .result) _ (c .before .before .before .before .before .before .before .before .before .refusal-of-sound .ensures) _ _ (sym (c .before .before .before .before .before .before .before .before .is-done .ensures) ∙ not-false _ (c .before .before .before .before .before .before .before .if1 .left)), ap (λ (m : Mix). m .right) o ∙ goes-on (c .before .before .before .before .before .before .before .before .before .refusal-of-sound .result) _ (c .before .before .before .before .before .before .before .before .before .refusal-of-sound .ensures) _ _ (sym (c .before .before .before .before .before .before .before .before .is-done .ensures) ∙ not-false _ (c .before .before .before .before .before .before .before .if1 .left)))),
     )
 
 pub clock-mixed-into-i32-spec : {M : Type 1} → statement M
@@ -126,6 +136,7 @@ clock-mixed-into-i32-spec =
     is-done-requires
     answers-requires
     returns
+    actives-requires
     least-requires
     loop-holds
     sub-least
@@ -137,6 +148,7 @@ clock-mixed-into-i32-spec =
     add-done
     loop-less
     loop-again
+    ended-requires
     with-core-requires
     same-length
     same-length-2

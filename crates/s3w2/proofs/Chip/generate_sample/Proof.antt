@@ -1,10 +1,12 @@
 use borrow.Author.Needs.{needs}
-use mathlib.Core.Path.{refl, sym, ap, _∙_}
+use mathlib.Core.Path.{refl, sym, ap, ap₂, _∙_}
+use mathlib.Core.Bool.{Bool}
 use lib.IntN.{ℤ}
 use mir.Syntax.{w16}
 use mir.Val.{SFits}
 use borrow.Author.Tests.{not-true, not-false}
 use Rattle.num.proofs.Integers.{back}
+use Rattle.endings.specs.Sets as sets
 use Rattle.s3w2.specs.declared.Answer.the-variants.{Sample}
 use Rattle.s3w2.specs.Answers.{answered}
 use Rattle.s3w2.specs.Chips.{withCore}
@@ -37,8 +39,17 @@ returns-2 c =
     let a = c .before .before .before .before .before .before .args in
     (goes-called (c .before .before .before .before .refusal-of-sound .result) _ (c .before .before .before .before .refusal-of-sound .ensures) _ _ _ (sym (c .before .before .before .is-done .ensures) ∙ not-false _ (c .before .before .if1 .left)) (c .answers2 .ensures ∙ sample-none (a .self) (a .ram .now) (a .queues .now) (a .ch) (c .before .if2 .taken)), refl)
 
+is-active-requires : tie.Need-is-active-requires
+is-active-requires c κs = search needs
+
 tick-requires : tie.Need-tick-requires
 tick-requires c κs = search needs
+
+is-active-requires-2 : tie.Need-is-active-requires-2
+is-active-requires-2 c κs = search needs
+
+turned-off-requires : tie.Need-turned-off-requires
+turned-off-requires c κs = search needs
 
 with-core-requires : tie.Need-with-core-requires
 with-core-requires c κs = search needs
@@ -49,13 +60,15 @@ same-length c = search needs
 returns-3 : tie.Need-returns-3
 unfolding generateSampleCalled
 returns-3 c =
-    let a = c .before .before .before .before .before .before .before .before .before .before .args in
-    let tick = c .before .before .before .tick in
-    let refusal = c .before .before .before .before .before .before .before .before .refusal-of-sound in
-    let done = sym (c .before .before .before .before .before .before .before .is-done .ensures) ∙ not-false _ (c .before .before .before .before .before .before .if1 .left) in
+    let a = c .before .before .before .before .before .before .before .before .before .before .before .before .before .before .before .args in
+    let tick = c .before .before .before .before .before .before .tick in
+    let refusal = c .before .before .before .before .before .before .before .before .before .before .before .before .before .refusal-of-sound in
+    let done = sym (c .before .before .before .before .before .before .before .before .before .before .before .before .is-done .ensures) ∙ not-false _ (c .before .before .before .before .before .before .before .before .before .before .before .if1 .left) in
     let f : SFits w16 (tick .result .sample) = record { sfits = c .before .struct-told .given .1 .0 .1 } in
     let t = all-there _ _ _ _ (refusal .result) (refusal .ensures) done in
-    (goes-called (refusal .result) _ (refusal .ensures) _ _ _ done (c .with-core .ensures ∙ ap (λ (x : ℤ). answered (withCore (a .self) (tick .result .core)) (Sample x)) (back w16 (tick .result .sample) f) ∙ sample-some (a .self) (a .ram .now) (a .queues .now) (a .ch) (tick .result .core) (tick .result .sample) (c .before .before .before .before .before .if2 .left) (t .lent) (tick .ensures .0)), tick .ensures .1)
+    let off = c .before .before .turned-off in
+    let ended = off .ensures ∙ ap₂ (λ (x y : Bool). sets.off x y) (c .before .before .before .before .before .before .before .before .is-active .ensures) (c .before .before .before .is-active2 .ensures) in
+    (goes-called (refusal .result) _ (refusal .ensures) _ _ _ done (c .with-core .ensures ∙ ap (λ (x : ℤ). answered (withCore (a .self) (tick .result .core)) (Sample x (off .result))) (back w16 (tick .result .sample) f) ∙ sample-some (a .self) (a .ram .now) (a .queues .now) (a .ch) (tick .result .core) (tick .result .sample) (off .result) (c .before .before .before .before .before .before .before .before .before .before .if2 .left) (t .lent) (tick .ensures .0) ended), tick .ensures .1)
 
 pub generate-sample-spec : {M : Type 1} → statement M
 generate-sample-spec =
@@ -67,7 +80,10 @@ generate-sample-spec =
     returns
     answers-requires-2
     returns-2
+    is-active-requires
     tick-requires
+    is-active-requires-2
+    turned-off-requires
     with-core-requires
     same-length
     returns-3)
