@@ -4,6 +4,5 @@ pub mod Whole
 pub mod Rooms
 pub mod Spots
 pub mod Running
-pub mod Keeping
 pub mod Bursting
 pub mod Parted

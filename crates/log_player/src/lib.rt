@@ -4,7 +4,6 @@ mod playing;
 mod runs;
 mod steps;
 
-pub use runs::keep;
 use s3w2::Chip;
 pub use steps::line_end;
 

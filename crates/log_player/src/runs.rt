@@ -2,10 +2,9 @@
 ghost use mathlib.Core.Path.{_≡_};
 ghost use mathlib.Core.Bool.{true};
 ghost use mathlib.Core.List.{[]};
-ghost use Prim.Native.Nat.{_+_, _-_, _≤_, _<_, _^_};
-ghost use lib.ListN.{length, take, drop};
+ghost use Prim.Native.Nat.{_+_, _≤_, _<_, _^_};
+ghost use lib.ListN.{length};
 ghost use lib.Seq.{sets};
-ghost use Rattle.num.specs.Lists.{part};
 ghost use Rattle.log_player.specs.Worlds.{world};
 ghost use Rattle.log_player.specs.Runs.{hasRoom, spot, runFrom, ranTo, ranAs};
 use crate::Next;
@@ -28,24 +27,6 @@ fn has_room(length: usize, end: usize, number: u64) -> bool
         return false;
     }
     ROOM <= length - end
-}
-
-// Moves the bytes from `from` to before `to` to the front, as far as there are any, and answers how many there are. The bytes
-// behind them stay.
-pub fn keep(input: &mut [u8], from: usize, to: usize) -> usize
-    ensures result { λ r. ⌜ r ≡ length (part (now (input .entry)) from (to - from)) ⌝ }
-    ensures { λ r. ⌜ take r (now (input .exit)) ≡ part (now (input .entry)) from (to - from) ⌝ }
-    ensures { λ r. ⌜ drop r (now (input .exit)) ≡ drop r (now (input .entry)) ⌝ }
-{
-    let end = num::least(to, input.len());
-    let start = num::least(from, end);
-    let count = end - start;
-    let mut i = 0;
-    while i < count {
-        input[i] = input[start + i];
-        i += 1;
-    }
-    count
 }
 
 impl Player {
