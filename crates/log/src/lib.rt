@@ -7,8 +7,6 @@ pub use text::peak;
 pub use text::put_bad;
 pub use text::put_frames;
 pub use text::put_peak;
-pub use text::put_peek;
-pub use text::put_read;
 pub use text::put_read_back;
 
 // A line of a log. An address is a register's, or a byte's in RAM.

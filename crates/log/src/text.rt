@@ -47,29 +47,13 @@ pub fn put_frames(out: &mut [u8], at: usize, left: &[i16], right: &[i16]) -> usi
     end
 }
 
-// Puts a letter, the address and the byte: what a line `R` or `P` prints.
+// Puts a letter, the address and the byte: what a line `R` (82) or `P` (80) prints.
 pub fn put_read_back(out: &mut [u8], at: usize, letter: u8, address: u32, byte: u8) -> usize
     ensures put { λ r. ⌜ Put (now (out .entry)) (now (out .exit)) at (readBackLine letter address byte) r ⌝ }
     ensures bound { λ _. ⌜ length (readBackLine letter address byte) ≤ 17 ⌝ }
 {
     let word = [letter];
     put_pair(out, at, &word, address as i64, byte as i64)
-}
-
-// Puts `R`, the address and the byte.
-pub fn put_read(out: &mut [u8], at: usize, address: u32, byte: u8) -> usize
-    ensures put { λ r. ⌜ Put (now (out .entry)) (now (out .exit)) at (readBackLine 82 address byte) r ⌝ }
-    ensures bound { λ _. ⌜ length (readBackLine 82 address byte) ≤ 17 ⌝ }
-{
-    put_read_back(out, at, 82, address, byte)
-}
-
-// Puts `P`, the address and the byte.
-pub fn put_peek(out: &mut [u8], at: usize, address: u32, byte: u8) -> usize
-    ensures put { λ r. ⌜ Put (now (out .entry)) (now (out .exit)) at (readBackLine 80 address byte) r ⌝ }
-    ensures bound { λ _. ⌜ length (readBackLine 80 address byte) ≤ 17 ⌝ }
-{
-    put_read_back(out, at, 80, address, byte)
 }
 
 // Puts the line that tells of a malformed one: `bad`, its number, 17.

@@ -134,12 +134,12 @@ impl Player {
                 let called = chip.read_register(address);
                 let next = called.chip;
                 let answer = called.answer;
-                let end = log::put_read(out, at, address, byte_of(answer));
+                let end = log::put_read_back(out, at, 82, address, byte_of(answer));
                 self.with_chip(next, end)
             }
             Line::Peek(address) => {
                 let answer = chip.peek_register(address);
-                let end = log::put_peek(out, at, address, byte_of(answer));
+                let end = log::put_read_back(out, at, 80, address, byte_of(answer));
                 self.with_chip(chip, end)
             }
             Line::Clock(frames) => self.clock(frames, ram, queues, out, at),

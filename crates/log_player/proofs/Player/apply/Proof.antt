@@ -34,8 +34,8 @@ read-register-requires c κs = search needs
 byte-of-requires : tie.Need-byte-of-requires
 byte-of-requires c κs = search needs
 
-put-read-requires : tie.Need-put-read-requires
-put-read-requires c κs = search needs
+put-read-back-requires : tie.Need-put-read-back-requires
+put-read-back-requires c κs = search needs
 
 with-chip-requires-3 : tie.Need-with-chip-requires-3
 with-chip-requires-3 c κs = search needs
@@ -49,8 +49,8 @@ peek-register-requires c κs = search needs
 byte-of-requires-2 : tie.Need-byte-of-requires-2
 byte-of-requires-2 c κs = search needs
 
-put-peek-requires : tie.Need-put-peek-requires
-put-peek-requires c κs = search needs
+put-read-back-requires-2 : tie.Need-put-read-back-requires-2
+put-read-back-requires-2 c κs = search needs
 
 with-chip-requires-4 : tie.Need-with-chip-requires-4
 with-chip-requires-4 c κs = search needs
@@ -98,13 +98,13 @@ same-length-3 : tie.Need-same-length-3
 same-length-3 c = search needs
 
 returns-3 : tie.Need-returns-3
-returns-3 c = read-line (world (c .before .before .before .before .before .before .before .before .before .before .before .before .before .before .before .args .self) (c .before .before .before .before .before .before .before .before .before .before .before .before .before .before .before .args .ram .now) (c .before .before .before .before .before .before .before .before .before .before .before .before .before .before .before .args .queues .now)) _ _ _ _ _ _ _ _ _ _ (c .before .before .before .before .before .before .before .before .before .line3 .given .1) (c .before .before .before .before .before .before .before .read-register .ensures) (c .before .before .before .before .byte-of .ensures) (c .before .before .before .put-read .ensures) (c .with-chip3 .ensures .0) (c .with-chip3 .ensures .1)
+returns-3 c = read-line (world (c .before .before .before .before .before .before .before .before .before .before .before .before .before .before .before .args .self) (c .before .before .before .before .before .before .before .before .before .before .before .before .before .before .before .args .ram .now) (c .before .before .before .before .before .before .before .before .before .before .before .before .before .before .before .args .queues .now)) _ _ _ _ _ _ _ _ _ _ (c .before .before .before .before .before .before .before .before .before .line3 .given .1) (c .before .before .before .before .before .before .before .read-register .ensures) (c .before .before .before .before .byte-of .ensures) (c .before .before .before .put-read-back .ensures) (c .with-chip3 .ensures .0) (c .with-chip3 .ensures .1)
 
 same-length-4 : tie.Need-same-length-4
 same-length-4 c = search needs
 
 returns-4 : tie.Need-returns-4
-returns-4 c = peek-line (world (c .before .before .before .before .before .before .before .before .before .before .before .before .before .before .args .self) (c .before .before .before .before .before .before .before .before .before .before .before .before .before .before .args .ram .now) (c .before .before .before .before .before .before .before .before .before .before .before .before .before .before .args .queues .now)) _ _ _ _ _ _ _ _ _ _ (c .before .before .before .before .before .before .before .before .line4 .given .1) (c .before .before .before .before .before .before .peek-register .ensures) (c .before .before .before .before .byte-of2 .ensures) (c .before .before .before .put-peek .ensures) (c .with-chip4 .ensures .0) (c .with-chip4 .ensures .1)
+returns-4 c = peek-line (world (c .before .before .before .before .before .before .before .before .before .before .before .before .before .before .args .self) (c .before .before .before .before .before .before .before .before .before .before .before .before .before .before .args .ram .now) (c .before .before .before .before .before .before .before .before .before .before .before .before .before .before .args .queues .now)) _ _ _ _ _ _ _ _ _ _ (c .before .before .before .before .before .before .before .before .line4 .given .1) (c .before .before .before .before .before .before .peek-register .ensures) (c .before .before .before .before .byte-of2 .ensures) (c .before .before .before .put-read-back2 .ensures) (c .with-chip4 .ensures .0) (c .with-chip4 .ensures .1)
 
 same-length-5 : tie.Need-same-length-5
 same-length-5 c = search needs
@@ -138,12 +138,12 @@ apply-spec =
     enum-known-line-3
     read-register-requires
     byte-of-requires
-    put-read-requires
+    put-read-back-requires
     with-chip-requires-3
     enum-known-line-4
     peek-register-requires
     byte-of-requires-2
-    put-peek-requires
+    put-read-back-requires-2
     with-chip-requires-4
     enum-known-line-5
     clock-requires
