@@ -8,11 +8,20 @@ mod sgu {
 use sgu::s3w2::*;
 use std::io::{BufWriter, Read, Write};
 
+/// The numbers of bad lines: document 01's of a malformed one, document 02's of one with an address above the last register.
+const MALFORMED: u8 = 17;
+const UNMAPPED: u8 = 27;
+
 /// A plain decimal numeral of at most `most`, without leading zeros.
-fn number(field: &[u8], most: u32) -> Option<u32> {
+fn number(field: &[u8], most: u32) -> Result<u32, u8> {
     let fine = !field.is_empty() && field.iter().all(u8::is_ascii_digit) && (field.len() == 1 || field[0] != b'0');
-    let text = std::str::from_utf8(field).ok().filter(|_| fine)?;
-    text.parse().ok().filter(|&n| n <= most)
+    let text = std::str::from_utf8(field).ok().filter(|_| fine).ok_or(MALFORMED)?;
+    text.parse().ok().filter(|&n| n <= most).ok_or(MALFORMED)
+}
+
+/// The address of a register, 0 to 2,303; the chip's own calls take any other too.
+fn register(address: u32) -> Result<u32, u8> {
+    Some(address).filter(|&a| a <= 2303).ok_or(UNMAPPED)
 }
 
 struct Player {
@@ -30,28 +39,31 @@ impl Player {
         }
     }
 
-    /// Plays a line without its closing byte 10; none is a malformed one.
-    fn play(&mut self, line: &[u8], out: &mut impl Write) -> Option<()> {
+    /// Plays a line without its closing byte 10; tells the number of a bad one.
+    fn play(&mut self, line: &[u8], out: &mut impl Write) -> Result<(), u8> {
         let fields: Vec<&[u8]> = line.split(|&b| b == b',').collect();
         match *fields.as_slice() {
-            [b"W", a, v] => self.chip.write_register(number(a, u32::MAX)?, number(v, 255)? as u8),
+            [b"W", a, v] => {
+                let (a, v) = (number(a, u32::MAX)?, number(v, 255)? as u8);
+                self.chip.write_register(register(a)?, v);
+            }
             [b"M", a, v] => self.chip.write_pcm_ram(number(a, u32::MAX)?, number(v, 255)? as u8),
             [b"R", a] => {
-                let a = number(a, u32::MAX)?;
+                let a = register(number(a, u32::MAX)?)?;
                 writeln!(out, "R,{a},{}", self.chip.read_register(a)).unwrap();
             }
             [b"P", a] => {
-                let a = number(a, u32::MAX)?;
+                let a = register(number(a, u32::MAX)?)?;
                 writeln!(out, "P,{a},{}", self.chip.peek_register(a)).unwrap();
             }
-            [b"C", n] => self.clock(number(n, 1000).filter(|&n| n > 0)?, out),
+            [b"C", n] => self.clock(number(n, 1000).and_then(|n| if n > 0 { Ok(n) } else { Err(MALFORMED) })?, out),
             [b"V", v] => {
                 let versions = [SguVersion::V1, SguVersion::V2, SguVersion::V2_1, SguVersion::V3, SguVersion::V3_1];
                 self.chip.set_version(versions[number(v, 4)? as usize]);
             }
-            _ => return None,
+            _ => return Err(MALFORMED),
         }
-        Some(())
+        Ok(())
     }
 }
 
@@ -83,9 +95,9 @@ fn main() {
     }
     player.peak = (0, 0);
     for (k, line) in lines.enumerate() {
-        let played = line.strip_suffix(b"\n").and_then(|line| player.play(line, &mut out));
-        if played.is_none() {
-            writeln!(out, "bad,{},17", k + 1).unwrap();
+        let played = line.strip_suffix(b"\n").ok_or(MALFORMED).and_then(|line| player.play(line, &mut out));
+        if let Err(why) = played {
+            writeln!(out, "bad,{},{why}", k + 1).unwrap();
             return;
         }
     }

@@ -1,10 +1,10 @@
 #!/usr/bin/env python3
 """s3w2_logs.py SEED NUMBER LENGTH: random logs; as a program, one score with LENGTH lines behind its voices.
 
-A log of `log` is well formed, of up to some thousands of lines, with runs of writes in some, or has one malformed line somewhere: empty, cut short, too long, with a
-leading zero, a sign, a space, a number out of range, a field too many or too few. A log of `score` sets voices up first, so that
-they sound: wavetables under every modulation, PCM, noise, streams of every version with loops, queues in part full; then it goes on with
-random lines among frames.
+A log of `log` has up to some thousands of lines, with runs of writes in some, and plays to its end; or it has one bad line
+somewhere: a malformed one (empty, cut short, too long, with a leading zero, a sign, a space, a number out of range, a field too many
+or too few), or one that names a register above 2,303. A log of `score` sets voices up first, so that they sound: wavetables under
+every modulation, PCM, noise, streams of every version with loops, queues in part full; then it goes on with random lines among frames.
 """
 import random
 import sys
@@ -14,16 +14,22 @@ import sqv4_files  # noqa: E402
 
 BAD = ["", "C", "C,", "C,0", "C,1001", "C,01", "C,+1", "C,-1", "C, 1", "C,1 ", "C,1\r", "C,1,", "C,1,1", "c,1", "CC,1", ",1", "V,5", "V,", "W,1",
        "W,1,", "W,1,256", "W,01,1", "W,1,01", "W,4294967296,1", "W,1,1,1", "W,,1", "W;1,1", "M,1", "M,1,256", "M,4294967296,0", "R,", "R,1,1", "R,-1",
-       "R,4294967296", "R,18446744073709551616", "P,00", "P", "Q,1", "F,1,1", "W,4294967295,2555", "C,1\0", "\0", "R,\xb2"]
+       "R,4294967296", "R,18446744073709551616", "P,00", "P", "Q,1", "F,1,1", "W,4294967295,2555", "C,1\0", "\0", "R,\xb2", "W,2304,256", "W,2304",
+       "R,2304,1", "P,2304,", "P,02304", "r,2304"]
 
 
 def address(rng):
+    """A register's address."""
     kind = rng.randrange(8)
     if kind == 0:
-        return rng.choice([0, 2047, 2048, 2303, 2304, 65535, 65536, 4294967295, rng.randrange(1 << 32)])
+        return rng.choice([0, 2047, 2048, 2302, 2303])
     if kind < 3:
         return rng.randrange(2048)
     return 2048 + rng.randrange(256)
+
+
+def ram_address(rng):
+    return rng.choice([rng.randrange(65536), rng.randrange(300), address(rng), 2304, 65535, 65536, 4294967295, rng.randrange(1 << 32)])
 
 
 def line(rng):
@@ -31,7 +37,7 @@ def line(rng):
     if kind < 10:
         return f"W,{address(rng)},{rng.choice([0, 1, 2, 3, 4, 5, 128, 255, rng.randrange(256)])}"
     if kind < 12:
-        return f"M,{rng.choice([rng.randrange(65536), rng.randrange(64), address(rng)])},{rng.randrange(256)}"
+        return f"M,{ram_address(rng)},{rng.randrange(256)}"
     if kind < 14:
         return f"R,{address(rng)}"
     if kind < 16:
@@ -52,12 +58,22 @@ def malformed(rng):
     return rng.choice(BAD)
 
 
+def unmapped(rng):
+    """A well-formed line of a register that is not there."""
+    above = rng.choice([2304, 2304, 2305, 65535, 65536, 4294967295, rng.randrange(2304, 1 << 32)])
+    return rng.choice([f"W,{above},{rng.randrange(256)}", f"R,{above}", f"P,{above}"])
+
+
+def bad(rng):
+    return unmapped(rng) if rng.random() < 0.4 else malformed(rng)
+
+
 def writes(rng):
     """Writes of one kind in a row, around the 256 that the port plays at a time."""
     count = rng.choice([2, 255, 256, 257, 258, 512, 513, rng.randrange(700)])
     if rng.random() < 0.5:
         return [f"W,{address(rng)},{rng.randrange(256)}" for _ in range(count)]
-    return [f"M,{rng.choice([rng.randrange(65536), rng.randrange(300), address(rng)])},{rng.randrange(256)}" for _ in range(count)]
+    return [f"M,{ram_address(rng)},{rng.randrange(256)}" for _ in range(count)]
 
 
 def log(seed, number):
@@ -68,7 +84,7 @@ def log(seed, number):
         place = rng.randrange(len(lines) + 1)
         lines[place:place] = writes(rng)
     if rng.random() < 0.4:
-        lines.insert(rng.randrange(len(lines) + 1), malformed(rng))
+        lines.insert(rng.randrange(len(lines) + 1), bad(rng))
     text = "".join(each + "\n" for each in lines).encode("latin-1")
     return text[:-1] if text and rng.random() < 0.1 else text
 
@@ -141,8 +157,25 @@ def score(seed, number, length=0):
         else:
             lines.append(line(rng))
     if not length and rng.random() < 0.1:
-        lines.insert(rng.randrange(len(lines) + 1), malformed(rng))
+        lines.insert(rng.randrange(len(lines) + 1), bad(rng))
     return lines
+
+
+class Tally:
+    """What the logs that were compared print: how many there are, how they end, how many frames they have."""
+
+    def __init__(self):
+        self.logs, self.frames, self.bad = 0, 0, {b"17": 0, b"27": 0}
+
+    def add(self, printed):
+        last = printed[:-1].split(b"\n")[-1].split(b",")
+        self.logs += 1
+        self.frames += printed.count(b"F")
+        if last[0] == b"bad":
+            self.bad[last[2]] += 1
+
+    def __str__(self):
+        return f"{self.logs} logs ({self.bad[b'17']} ended by a bad line with 17, {self.bad[b'27']} with 27), {self.frames} frames"
 
 
 def main():

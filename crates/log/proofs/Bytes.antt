@@ -11,12 +11,12 @@ use Rattle.decimal.specs.declared.TakenNatural.{TakenNatural}
 use Rattle.decimal.specs.declared.TakenNatural.the-variants.{Natural, NoNatural}
 use Rattle.decimal.specs.Read.{naturalAt}
 use Rattle.log.specs.declared.Line.{Line}
-use Rattle.log.specs.declared.Line.the-variants.{Write, WriteRam, Read, Peek, Clock, Version, Malformed}
+use Rattle.log.specs.declared.Line.the-variants.{Write, WriteRam, Read, Peek, Clock, Version, Malformed, Unmapped}
 use Rattle.log.specs.declared.One.{One}
 use Rattle.log.specs.declared.One.the-variants.{Number, NoNumber}
 use Rattle.log.specs.declared.Two.{Two}
 use Rattle.log.specs.declared.Two.the-variants.{Numbers, NoNumbers}
-use Rattle.log.specs.Lines.{oneOf, oneAt, Within, addressAnd, twoOf, twoAt, asWrite, writtenRam, readOf, peekOf, clockOf, asVersion, byKind, parsedLine}
+use Rattle.log.specs.Lines.{oneOf, oneAt, Within, addressAnd, twoOf, twoAt, isMapped, addressed, asWrite, writtenRam, readOf, peekOf, clockOf, asVersion, byKind, parsedLine}
 
 abbrev FitTwo : Two → Type 0
 FitTwo (Numbers a v) = v < 256
@@ -53,21 +53,26 @@ FitLine (Peek a) = Unit {0}
 FitLine (Clock n) = Unit {0}
 FitLine (Version v) = Unit {0}
 FitLine Malformed = Unit {0}
+FitLine Unmapped = Unit {0}
+
+addressed-fits : (kind a : ℕ) (line : Line) → FitLine line → FitLine (addressed kind a line)
+unfolding addressed
+addressed-fits kind a line h = cond-by FitLine (isMapped kind a) line Unmapped (λ e. h) (λ e. tt)
 
 written-fits : (t : Two) → FitTwo t → FitLine (asWrite t)
-written-fits (Numbers a v) h = h
+written-fits (Numbers a v) h = addressed-fits 87 a (Write a v) h
 written-fits NoNumbers h = tt
 
 ram-fits : (t : Two) → FitTwo t → FitLine (writtenRam t)
-ram-fits (Numbers a v) h = h
+ram-fits (Numbers a v) h = addressed-fits 77 a (WriteRam a v) h
 ram-fits NoNumbers h = tt
 
 read-fits : (o : One) → FitLine (readOf o)
-read-fits (Number a) = tt
+read-fits (Number a) = addressed-fits 82 a (Read a) tt
 read-fits NoNumber = tt
 
 peek-fits : (o : One) → FitLine (peekOf o)
-peek-fits (Number a) = tt
+peek-fits (Number a) = addressed-fits 80 a (Peek a) tt
 peek-fits NoNumber = tt
 
 clock-fits : (o : One) → FitLine (clockOf o)

@@ -9,7 +9,6 @@ use mir.Syntax.{w16}
 use mir.Val.{SFits}
 use Rattle.decimal.specs.Written.{decimal, render}
 use Rattle.decimal.proofs.Writing.{width-below, width-most, sample-width}
-use Rattle.log.proofs.Texts.{seventeen}
 use Rattle.log.specs.Texts.{commaField, pairLine, frameLine, frameLines, readBackLine, badLine}
 
 natural-length : (k n : ℕ) → n < 10 ^ suc k → length (render (pos n)) ≤ suc k
@@ -24,10 +23,10 @@ pair-length word a b m n f g =
 pub read-length : (kind address byte : ℕ) → address < 2 ^ 32 → byte < 256 → length (readBackLine kind address byte) ≤ 17
 read-length kind address byte a b = omega (arith, pair-length (kind ∷ []) (pos address) (pos byte) 10 3 (natural-length 9 address (omega arith)) (natural-length 2 byte (omega arith)))
 
-pub bad-length : (number : ℕ) → number < 2 ^ 64 → length (badLine number) ≤ 28
+pub bad-length : (line why : ℕ) → line < 2 ^ 64 → why < 256 → length (badLine line why) ≤ 29
 unfolding badLine
-bad-length number h =
-    rw seventeen (omega (arith, width-most number h, length-append (decimal number) (44 ∷ 49 ∷ 55 ∷ 10 ∷ [])))
+bad-length line why h k =
+    omega (arith, width-most line h, width-below 2 why (omega arith), length-append (decimal line) (44 ∷ (decimal why ++ (10 ∷ []))), length-append (decimal why) (10 ∷ []))
 
 frame-length : (a b : ℤ) → SFits w16 a → SFits w16 b → length (frameLine a b) ≤ 16
 frame-length a b f g = omega (arith, pair-length (70 ∷ []) a b 6 6 (sample-width a f) (sample-width b g))

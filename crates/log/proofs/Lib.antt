@@ -2,4 +2,5 @@ pub mod Commas
 pub mod Texts
 pub mod Lengths
 pub mod Long
+pub mod Addresses
 pub mod Bytes

@@ -9,7 +9,7 @@ use lib.ListN.{length, getD}
 use mir.Syntax.{w64}
 use mir.Val.{toZ}
 use mir.Facts.{toZ-pos}
-use Rattle.decimal.specs.Written.{Put, digitsIn, decimal, render}
+use Rattle.decimal.specs.Written.{Put, decimal, render}
 use Rattle.decimal.proofs.Writing.{put-append, put-none}
 use Rattle.log.specs.Texts.{commaField, pairLine, frameLine, frameLines, badLine, peakOf}
 
@@ -27,17 +27,13 @@ pair-put l m n o k at e f g r word a b p q s t =
     put-append l m k at e r word (commaField a ++ (commaField b ++ (10 ∷ []))) p
     (put-append m n k e f r (commaField a) (commaField b ++ (10 ∷ [])) q (put-append n o k f g r (commaField b) (10 ∷ []) s t))
 
--- the number of a malformed line, and byte 10
-pub seventeen : 44 ∷ (decimal 17 ++ (10 ∷ [])) ≡ 44 ∷ 49 ∷ 55 ∷ 10 ∷ []
-unfolding decimal digitsIn
-seventeen = refl
-
-pub bad-put : (l m n k : List ℕ) (at e f r number : ℕ) → Put l m at (98 ∷ 97 ∷ 100 ∷ 44 ∷ []) e → Put m n e (decimal number) f → Put n k f (44 ∷ 49 ∷ 55 ∷ 10 ∷ []) r → Put l k at (badLine number) r
+pub bad-put : (l m n o k j : List ℕ) (at e f g h r line why : ℕ) → Put l m at (98 ∷ 97 ∷ 100 ∷ 44 ∷ []) e → Put m n e (decimal line) f
+    → Put n o f (44 ∷ []) g → Put o k g (decimal why) h → Put k j h (10 ∷ []) r → Put l j at (badLine line why) r
 unfolding badLine
-bad-put l m n k at e f r number p q s =
-    rw seventeen
-    (put-append l m k at e r (98 ∷ 97 ∷ 100 ∷ 44 ∷ []) (decimal number ++ (44 ∷ 49 ∷ 55 ∷ 10 ∷ [])) p
-    (put-append m n k e f r (decimal number) (44 ∷ 49 ∷ 55 ∷ 10 ∷ []) q s))
+bad-put l m n o k j at e f g h r line why p q s t u =
+    put-append l m j at e r (98 ∷ 97 ∷ 100 ∷ 44 ∷ []) (decimal line ++ (44 ∷ (decimal why ++ (10 ∷ [])))) p
+    (put-append m n j e f r (decimal line) (44 ∷ (decimal why ++ (10 ∷ []))) q
+    (put-append n o j f g r (44 ∷ []) (decimal why ++ (10 ∷ [])) s (put-append o k j g h r (decimal why) (10 ∷ []) t u)))
 
 pub frames-none : (l : List ℕ) (left right : List ℤ) (at e : ℕ) → e ≡ min at (length l) → Put l l at (frameLines left right 0) e
 unfolding frameLines

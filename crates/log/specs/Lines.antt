@@ -1,15 +1,15 @@
--- Document 01's log lines, each without its closing byte 10.
-use mathlib.Core.Bool.{cond}
+-- Document 01's log lines, each without its closing byte 10; document 02's strict addresses.
+use mathlib.Core.Bool.{Bool, true, cond}
 use mathlib.Core.List.{List, [], _∷_}
 use Prim.Native.Nat.{ℕ, _+_, _≤_}
-use lib.Dec.{eqb, leb}
+use lib.Dec.{eqb, leb, ltb}
 use lib.ListN.{length, getD}
-use Rattle.sizes.specs.Sizes.{lastVersion}
+use Rattle.sizes.specs.Sizes.{registersEnd, lastVersion}
 use Rattle.decimal.specs.declared.TakenNatural.{TakenNatural}
 use Rattle.decimal.specs.declared.TakenNatural.the-variants.{Natural, NoNatural}
 use Rattle.decimal.specs.Read.{naturalAt}
 use Rattle.log.specs.declared.Line.{Line}
-use Rattle.log.specs.declared.Line.the-variants.{Write, WriteRam, Read, Peek, Clock, Version, Malformed}
+use Rattle.log.specs.declared.Line.the-variants.{Write, WriteRam, Read, Peek, Clock, Version, Malformed, Unmapped}
 use Rattle.log.specs.declared.One.{One}
 use Rattle.log.specs.declared.One.the-variants.{Number, NoNumber}
 use Rattle.log.specs.declared.Two.{Two}
@@ -41,20 +41,27 @@ unfoldable pub twoAt : List ℕ → ℕ → Two
 twoAt text at = twoOf text (naturalAt text at)
 
 -- ---- lines
+-- an `M` line (77) names a byte of the RAM, any other line a register: there are 2,304
+abbrev pub isMapped : ℕ → ℕ → Bool
+isMapped kind address = cond (eqb kind 77) true (ltb address registersEnd)
+
+unfoldable pub addressed : ℕ → ℕ → Line → Line
+addressed kind address line = cond (isMapped kind address) line Unmapped
+
 abbrev pub asWrite : Two → Line
-asWrite (Numbers a v) = Write a v
+asWrite (Numbers a v) = addressed 87 a (Write a v)
 asWrite NoNumbers = Malformed
 
 abbrev pub writtenRam : Two → Line
-writtenRam (Numbers a v) = WriteRam a v
+writtenRam (Numbers a v) = addressed 77 a (WriteRam a v)
 writtenRam NoNumbers = Malformed
 
 abbrev pub readOf : One → Line
-readOf (Number a) = Read a
+readOf (Number a) = addressed 82 a (Read a)
 readOf NoNumber = Malformed
 
 abbrev pub peekOf : One → Line
-peekOf (Number a) = Peek a
+peekOf (Number a) = addressed 80 a (Peek a)
 peekOf NoNumber = Malformed
 
 -- 1 to 1,000 frames
@@ -80,7 +87,7 @@ byKind text k =
 unfoldable pub parsedLine : List ℕ → Line
 parsedLine text = cond (eqb (getD text 1 0) 44) (byKind text (getD text 0 0)) Malformed
 
--- document 01's number of a line that is turned away; one that is not has none
+-- the number of a bad line, document 01's or document 02's; any other has none
 abbrev pub numberOf : Line → List ℕ
 numberOf (Write a v) = []
 numberOf (WriteRam a v) = []
@@ -89,3 +96,12 @@ numberOf (Peek a) = []
 numberOf (Clock n) = []
 numberOf (Version v) = []
 numberOf Malformed = 17 ∷ []
+numberOf Unmapped = 27 ∷ []
+
+-- the same as a number, 0 where there is none
+abbrev pub badNumber : Line → ℕ
+badNumber line = getD (numberOf line) 0 0
+
+-- a bad line is not played, and ends the log
+abbrev pub isBad : Line → Bool
+isBad line = ltb 0 (badNumber line)

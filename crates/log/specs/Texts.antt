@@ -4,8 +4,6 @@ use Prim.Native.Nat.{ℕ, zero, suc, max}
 use lib.IntN.{ℤ, pos, natAbs}
 use lib.ListN.{getD}
 use Rattle.decimal.specs.Written.{decimal, render}
-use Rattle.log.specs.declared.Line.the-variants.{Malformed}
-use Rattle.log.specs.Lines.{numberOf}
 
 -- a number behind a comma
 unfoldable pub commaField : ℤ → List ℕ
@@ -28,9 +26,9 @@ frameLines left right (suc n) = frameLines left right n ++ frameLine (getD left 
 abbrev pub readBackLine : ℕ → ℕ → ℕ → List ℕ
 readBackLine kind address byte = pairLine (kind ∷ []) (pos address) (pos byte)
 
--- `bad`, the line's number, and that of a malformed line
-unfoldable pub badLine : ℕ → List ℕ
-badLine number = (98 ∷ 97 ∷ 100 ∷ 44 ∷ []) ++ (decimal number ++ (44 ∷ (decimal (getD (numberOf Malformed) 0 0) ++ (10 ∷ []))))
+-- `bad`, which line it is, and the number of why
+unfoldable pub badLine : ℕ → ℕ → List ℕ
+badLine line why = (98 ∷ 97 ∷ 100 ∷ 44 ∷ []) ++ (decimal line ++ (44 ∷ (decimal why ++ (10 ∷ []))))
 
 -- `peak`, left, right
 abbrev pub peakLine : ℕ → ℕ → List ℕ

@@ -9,7 +9,12 @@ pub use text::put_frames;
 pub use text::put_peak;
 pub use text::put_read_back;
 
-// A line of a log. An address is a register's, or a byte's in RAM.
+// The numbers of bad lines: document 01's of a malformed one, document 02's of one that names a register that is not there.
+pub const MALFORMED: u8 = 17;
+
+pub const UNMAPPED: u8 = 27;
+
+// A line of a log. An address is a register's, or a byte's in RAM; an `Unmapped` line is well formed and names a register that is not there.
 pub enum Line {
     Write { address: u32, value: u8 },
     WriteRam { address: u32, value: u8 },
@@ -18,6 +23,7 @@ pub enum Line {
     Clock(u32),
     Version(u32),
     Malformed,
+    Unmapped,
 }
 
 // The one numeral from a place to the end of a line.

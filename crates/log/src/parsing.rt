@@ -1,6 +1,7 @@
 // A line, without its closing byte 10, taken apart.
 ghost use mathlib.Core.Path.{_≡_};
-ghost use Rattle.log.specs.Lines.{Within, oneAt, twoAt, asWrite, writtenRam, readOf, peekOf, clockOf, asVersion, parsedLine, numberOf};
+ghost use Rattle.log.specs.Lines.{Within, oneAt, twoAt, isMapped, addressed, asWrite, writtenRam, readOf, peekOf, clockOf, asVersion, parsedLine};
+ghost use Rattle.log.specs.Lines.{numberOf};
 ghost use lib.ListN.{getD};
 use crate::Line;
 use crate::One;
@@ -46,11 +47,31 @@ fn two_numbers(text: &[u8], at: usize) -> Two
     Two::Numbers(value as u32, byte as u8)
 }
 
+// Whether there is such an address: an `M` line (77) names a byte of the RAM, any other line a register.
+fn is_mapped(kind: u8, address: u32) -> bool
+    ensures { λ r. ⌜ r ≡ isMapped kind address ⌝ }
+{
+    if kind == 77 {
+        return true;
+    }
+    (address as usize) < sizes::REGISTERS_END
+}
+
+// A line of this kind and address, where there is such an address.
+fn addressed(kind: u8, address: u32, line: Line) -> Line
+    ensures { λ r. ⌜ r ≡ addressed kind address line ⌝ }
+{
+    if is_mapped(kind, address) {
+        return line;
+    }
+    Line::Unmapped
+}
+
 fn write_of(two: Two) -> Line
     ensures { λ r. ⌜ r ≡ asWrite two ⌝ }
 {
     match two {
-        Two::Numbers(address, value) => Line::Write { address, value },
+        Two::Numbers(address, value) => addressed(87, address, Line::Write { address, value }),
         Two::NoNumbers => Line::Malformed,
     }
 }
@@ -59,7 +80,7 @@ fn write_ram_of(two: Two) -> Line
     ensures { λ r. ⌜ r ≡ writtenRam two ⌝ }
 {
     match two {
-        Two::Numbers(address, value) => Line::WriteRam { address, value },
+        Two::Numbers(address, value) => addressed(77, address, Line::WriteRam { address, value }),
         Two::NoNumbers => Line::Malformed,
     }
 }
@@ -68,7 +89,7 @@ fn read_of(one: One) -> Line
     ensures { λ r. ⌜ r ≡ readOf one ⌝ }
 {
     match one {
-        One::Number(address) => Line::Read(address),
+        One::Number(address) => addressed(82, address, Line::Read(address)),
         One::NoNumber => Line::Malformed,
     }
 }
@@ -77,7 +98,7 @@ fn peek_of(one: One) -> Line
     ensures { λ r. ⌜ r ≡ peekOf one ⌝ }
 {
     match one {
-        One::Number(address) => Line::Peek(address),
+        One::Number(address) => addressed(80, address, Line::Peek(address)),
         One::NoNumber => Line::Malformed,
     }
 }
@@ -106,7 +127,7 @@ fn version_of(one: One) -> Line
 }
 
 impl Line {
-    // Document 01's number of a line that is turned away; 0 where it is not.
+    // The number of a bad line, document 01's or document 02's; 0 where it is none.
     pub fn number(self) -> u8
         ensures { λ r. ⌜ r ≡ getD (numberOf self) 0 0 ⌝ }
     {
@@ -117,7 +138,8 @@ impl Line {
             Line::Peek(_) => 0,
             Line::Clock(_) => 0,
             Line::Version(_) => 0,
-            Line::Malformed => 17,
+            Line::Malformed => crate::MALFORMED,
+            Line::Unmapped => crate::UNMAPPED,
         }
     }
 }

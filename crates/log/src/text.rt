@@ -56,14 +56,16 @@ pub fn put_read_back(out: &mut [u8], at: usize, letter: u8, address: u32, byte: 
     put_pair(out, at, &word, address as i64, byte as i64)
 }
 
-// Puts the line that tells of a malformed one: `bad`, its number, 17.
-pub fn put_bad(out: &mut [u8], at: usize, number: u64) -> usize
-    ensures put { λ r. ⌜ Put (now (out .entry)) (now (out .exit)) at (badLine number) r ⌝ }
-    ensures bound { λ _. ⌜ length (badLine number) ≤ 28 ⌝ }
+// Puts the line that tells of a bad one: `bad`, which line it is, the number of why.
+pub fn put_bad(out: &mut [u8], at: usize, line: u64, why: u8) -> usize
+    ensures put { λ r. ⌜ Put (now (out .entry)) (now (out .exit)) at (badLine line why) r ⌝ }
+    ensures bound { λ _. ⌜ length (badLine line why) ≤ 29 ⌝ }
 {
     let first = decimal::put_text(out, at, b"bad,");
-    let second = decimal::put_natural(out, first, number);
-    decimal::put_text(out, second, b",17\n")
+    let second = decimal::put_natural(out, first, line);
+    let third = decimal::put_byte(out, second, 44);
+    let fourth = decimal::put_natural(out, third, why as u64);
+    decimal::put_byte(out, fourth, 10)
 }
 
 // Puts the last line: `peak`, left, right.

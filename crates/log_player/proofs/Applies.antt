@@ -10,7 +10,7 @@ use Rattle.decimal.proofs.Writing.{put-none}
 use Rattle.version.specs.Versions.{versionOf}
 use Rattle.version.specs.declared.SguVersion.{SguVersion}
 use Rattle.log.specs.declared.Line.{Line}
-use Rattle.log.specs.declared.Line.the-variants.{Write, WriteRam, Read, Peek, Clock, Version, Malformed}
+use Rattle.log.specs.declared.Line.the-variants.{Write, WriteRam, Read, Peek, Clock, Version, Malformed, Unmapped}
 use Rattle.log.specs.Texts.{frameLines, readBackLine, peakOf}
 use Rattle.s3w2.specs.declared.Called.{Called}
 use Rattle.s3w2.specs.declared.Answer.{Answer}
@@ -59,6 +59,10 @@ module _ (w : World) (line : Line) (p : Player) (out : List ℕ) (at same end : 
   pub bad-line : line ≡ Malformed → p ≡ w .player → same ≡ min at (length out) → end ≡ same → Applied w line p (w .ram) (w .queues) out out at end
   unfolding effectOf
   bad-line e h s r = equal w line Malformed p (w .ram) (w .queues) out out at end e (h, (refl, (refl, nothing out at same end s r)))
+
+  pub unmapped-line : line ≡ Unmapped → p ≡ w .player → same ≡ min at (length out) → end ≡ same → Applied w line p (w .ram) (w .queues) out out at end
+  unfolding effectOf
+  unmapped-line e h s r = equal w line Unmapped p (w .ram) (w .queues) out out at end e (h, (refl, (refl, nothing out at same end s r)))
 
 -- ---- lines that print
 module _ (w : World) (line : Line) (p : Player) (out now : List ℕ) (at end : ℕ) where

@@ -9,15 +9,14 @@ use lib.IntN.{ℤ}
 use lib.ListN.{length, take, drop, getD, set}
 use lib.Seq.{getD-set-same, getD-set-other, getD-take, length-take-le}
 use Rattle.log.specs.declared.Line.{Line}
-use Rattle.log.specs.declared.Line.the-variants.{Write, WriteRam, Read, Peek, Clock, Version, Malformed}
-use Rattle.log.specs.Lines.{parsedLine}
+use Rattle.log.specs.declared.Line.the-variants.{Write, WriteRam, Read, Peek, Clock, Version, Malformed, Unmapped}
+use Rattle.log.specs.Lines.{parsedLine, isBad}
 use Rattle.s3w2.specs.Lists.{fed, registersWritten, filled, bytesWritten}
 use Rattle.log_player.specs.declared.Assigned.the-variants.{To}
 use Rattle.log_player.specs.declared.Player.{Player}
 use Rattle.log_player.specs.declared.Next.the-variants.{Line as Played}
 use Rattle.log_player.specs.Worlds.{World, world, withChip}
 use Rattle.log_player.specs.Applied.{effectOf, afterLine, printed}
-use Rattle.log_player.specs.Logs.{malformed}
 use Rattle.log_player.specs.Steps.{firstLine, nextOf}
 use Rattle.log_player.specs.Runs.{spot, isLine, runFrom}
 use Rattle.log_player.specs.Bursts.{writing, assignedBy, allWritten, Collects, Bursts}
@@ -78,8 +77,9 @@ is-writing ram (Peek b) a v e = absurd (let z : _≡_ {A = ℕ} 0 1 = cc in omeg
 is-writing ram (Clock b) a v e = absurd (let z : _≡_ {A = ℕ} 0 1 = cc in omega arith)
 is-writing ram (Version b) a v e = absurd (let z : _≡_ {A = ℕ} 0 1 = cc in omega arith)
 is-writing ram Malformed a v e = absurd (let z : _≡_ {A = ℕ} 0 1 = cc in omega arith)
+is-writing ram Unmapped a v e = absurd (let z : _≡_ {A = ℕ} 0 1 = cc in omega arith)
 
-fine : (ram : Bool) (a v : ℕ) → malformed (writing ram a v) ≡ false
+fine : (ram : Bool) (a v : ℕ) → isBad (writing ram a v) ≡ false
 fine true a v = refl
 fine false a v = refl
 

@@ -14,12 +14,13 @@ use Rattle.tone.specs.Pcm.{isRamLength}
 use Rattle.s3w2.specs.Answers.{isDone}
 use Rattle.s3w2.specs.Refusals.{refusal}
 use Rattle.s3w2.specs.Fresh.{madeRefusal, madeRam}
-use Rattle.log.specs.Lines.{parsedLine}
+use Rattle.log.specs.declared.Line.the-variants.{Malformed}
+use Rattle.log.specs.Lines.{parsedLine, badNumber, isBad}
 use Rattle.log_player.specs.declared.Next.{Next}
 use Rattle.log_player.specs.declared.Next.the-variants.{Line, Rest, Bad}
 use Rattle.log_player.specs.Worlds.{World, world, freshPlayer, freshWorld}
 use Rattle.log_player.specs.Applied.{afterLine, printed}
-use Rattle.log_player.specs.Logs.{malformed, restText, logText}
+use Rattle.log_player.specs.Logs.{restText, logText}
 use Rattle.log_player.specs.Steps.{firstLine, nextOf}
 use Rattle.log_player.specs.Runs.{hasRoom, Spot, spot, spotBehind, isLine, foundBy, playsLine, linesPlayed, Run, stopText, stopsAt, runFrom}
 use Rattle.log_player.specs.Parts.{textBefore, followed, runsOver, unlessBad, partsPrinted, joined}
@@ -28,18 +29,21 @@ use Rattle.log_player.proofs.Whole.{step-line, step-bad, step-end}
 use Rattle.log_player.proofs.Rooms.{room-is}
 use Rattle.log_player.proofs.Spots.{line-within, line-at, played-line, plays-line, found-there, run-next, run-stops}
 
--- what follows a run; nothing behind a malformed line
+-- what follows a run; nothing behind a bad line
 abbrev leftText : World → ℕ → Next → List ℕ → List ℕ
 leftText w number (Line place) rest = restText w number [] rest
 leftText w number Rest rest = restText w number [] rest
-leftText w number Bad rest = []
+leftText w number (Bad why) rest = []
 
 -- ---- what an input holds, wherever it begins
 rest-anywhere : (rest : List ℕ) (at other : ℕ) → nextOf rest at ≡ Rest → nextOf rest other ≡ Rest
 unfolding nextOf
-rest-anywhere rest at other e = go (eqb (length (firstLine rest)) (length rest)) (cond (leb (length rest) 16) Rest Bad) (malformed (parsedLine (firstLine rest))) e
+rest-anywhere rest at other e = go (eqb (length (firstLine rest)) (length rest)) (cond (leb (length rest) 16) Rest (Bad (badNumber Malformed))) (isBad (parsedLine (firstLine rest))) e
   where
-    go : (b : Bool) (x : Next) (m : Bool) → cond b x (cond m Bad (Line (at + length (firstLine rest) + 1))) ≡ Rest → cond b x (cond m Bad (Line (other + length (firstLine rest) + 1))) ≡ Rest
+    bad : Next
+    bad = Bad (badNumber (parsedLine (firstLine rest)))
+
+    go : (b : Bool) (x : Next) (m : Bool) → cond b x (cond m bad (Line (at + length (firstLine rest) + 1))) ≡ Rest → cond b x (cond m bad (Line (other + length (firstLine rest) + 1))) ≡ Rest
     go true x m h = h
     go false x true h = h
     go false x false h = absurd (let z : _≡_ {A = ℕ} 0 1 = cc in omega arith)
@@ -125,9 +129,9 @@ module _ (room : ℕ) (input : List ℕ) where
       ≡ (s .text ++ stopText (s .number) next) ++ leftText (s .world) (s .number) next (drop (s .from) input ++ more)
   stop-text s (Line place) e more = ap (λ (t : List ℕ). t ++ restText (s .world) (s .number) [] (drop (s .from) input ++ more)) (sym (append-nil (s .text)))
   stop-text s Rest e more = ap (λ (t : List ℕ). t ++ restText (s .world) (s .number) [] (drop (s .from) input ++ more)) (sym (append-nil (s .text)))
-  stop-text s Bad e more =
-      ap (λ (t : List ℕ). s .text ++ t) (step-bad (s .world) (s .number) (drop (s .from) input) (s .from) more (found-is s Bad refl e))
-      ∙ sym (append-nil (s .text ++ stopText (s .number) Bad))
+  stop-text s (Bad why) e more =
+      ap (λ (t : List ℕ). s .text ++ t) (step-bad (s .world) (s .number) (drop (s .from) input) (s .from) why more (found-is s (Bad why) refl e))
+      ∙ sym (append-nil (s .text ++ stopText (s .number) (Bad why)))
 
   pub run-text : (s : Spot) (more : List ℕ) → s .text ++ restText (s .world) (s .number) [] (drop (s .from) input ++ more)
       ≡ runFrom room input s .text ++ leftText (runFrom room input s .world) (runFrom room input s .number) (runFrom room input s .next) (drop (runFrom room input s .from) input ++ more)
@@ -184,7 +188,7 @@ module _ (room : ℕ) (input : List ℕ) where
       -- another run behind it
       ends-more : (more : Run) (next : Next) → r .next ≡ next → (isLine (r .next) ≡ true → Ends (r .world) (r .number) (r .from) more) → Ends w number from (followed next r more)
       ends-more more Rest e ih = ends-one w number from (ap isLine e)
-      ends-more more Bad e ih = ends-one w number from (ap isLine e)
+      ends-more more (Bad why) e ih = ends-one w number from (ap isLine e)
       ends-more more (Line place) e ih =
           let k = ih (ap isLine e) in
           record {
@@ -239,7 +243,7 @@ module _ (room : ℕ) (large : 16384 ≤ room) where
       go : (next : Next) → r .next ≡ next → goal → r .text ++ unlessBad next (partsPrinted room (r .world) (r .number) behind parts) ≡ r .text ++ leftText (r .world) (r .number) next (behind ++ joined parts)
       go (Line place) h ih = never (sym (ap isLine h) ∙ ends .stops)
       go Rest h ih = ap (λ (t : List ℕ). r .text ++ t) (ih (rest-anywhere behind (r .from) 0 (ends .rest h)) fewer)
-      go Bad h ih = refl
+      go (Bad why) h ih = refl
 
   -- from a fresh player, an input in parts of any lengths prints its log
   pub log-in-parts : (parts : List (List ℕ)) → length (joined parts) + 1 < 18446744073709551615 → partsPrinted room freshWorld 1 [] parts ≡ logText (joined parts)

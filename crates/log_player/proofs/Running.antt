@@ -13,7 +13,8 @@ use types.Run.{OneOf, miss}
 use denote.Enum.Declared.{tagOf}
 use Rattle.decimal.specs.Written.{Put}
 use Rattle.decimal.proofs.Writing.{put-append, put-none}
-use Rattle.log.specs.Lines.{parsedLine}
+use Rattle.log.specs.declared.Line.the-variants.{Malformed}
+use Rattle.log.specs.Lines.{parsedLine, badNumber, isBad}
 use Rattle.log_player.proofs.Next.{the-type}
 use Rattle.log_player.specs.declared.Player.{Player}
 use Rattle.log_player.specs.declared.Ran.{Ran}
@@ -21,7 +22,6 @@ use Rattle.log_player.specs.declared.Next.{Next}
 use Rattle.log_player.specs.declared.Next.the-variants.{Line, Rest, Bad}
 use Rattle.log_player.specs.Worlds.{World, world}
 use Rattle.log_player.specs.Applied.{afterLine, printed}
-use Rattle.log_player.specs.Logs.{malformed}
 use Rattle.log_player.specs.Steps.{firstLine, nextOf}
 use Rattle.log_player.specs.Runs.{hasRoom, Spot, spot, spotBehind, isLine, Run, stopText, stopsAt, runFrom, ranTo, ranAs}
 use Rattle.log_player.specs.Bursts.{Bursts}
@@ -47,12 +47,12 @@ Promised run ram queues out now r =
 -- the place behind a line that is played
 behind-line : (rest : List ℕ) (at place : ℕ) → nextOf rest at ≡ Line place → place ≡ at + suc (length (firstLine rest))
 unfolding nextOf
-behind-line rest at place e = go (eqb (length (firstLine rest)) (length rest)) refl (malformed (parsedLine (firstLine rest))) refl (leb (length rest) 16) refl
+behind-line rest at place e = go (eqb (length (firstLine rest)) (length rest)) refl (isBad (parsedLine (firstLine rest))) refl (leb (length rest) 16) refl
   where
-    go : (a : Bool) → eqb (length (firstLine rest)) (length rest) ≡ a → (b : Bool) → malformed (parsedLine (firstLine rest)) ≡ b → (c : Bool) → leb (length rest) 16 ≡ c → place ≡ at + suc (length (firstLine rest))
+    go : (a : Bool) → eqb (length (firstLine rest)) (length rest) ≡ a → (b : Bool) → isBad (parsedLine (firstLine rest)) ≡ b → (c : Bool) → leb (length rest) 16 ≡ c → place ≡ at + suc (length (firstLine rest))
     go true t b m true k = let z : Rest ≡ Line place = rw (t, k) at e in (cc)
-    go true t b m false k = let z : Bad ≡ Line place = rw (t, k) at e in (cc)
-    go false t true m c k = let z : Bad ≡ Line place = rw (t, m) at e in (cc)
+    go true t b m false k = let z : Bad (badNumber Malformed) ≡ Line place = rw (t, k) at e in (cc)
+    go false t true m c k = let z : Bad (badNumber (parsedLine (firstLine rest))) ≡ Line place = rw (t, m) at e in (cc)
     go false t false m c k =
         let z : Line (at + length (firstLine rest) + 1) ≡ Line place = rw (t, m) at e in
         let y : at + length (firstLine rest) + 1 ≡ place = cc in
@@ -110,7 +110,7 @@ module _ (input : List ℕ) (run : Run) (a : World) (line place end e : ℕ) (ou
   pub running-stop : (next : Next) → OneOf (1 ∷ 2 ∷ []) (tagOf the-type next) → Running input run a line place out mid end → nextOf rest place ≡ next → Steps a line next (firstLine rest) next p ram queues mid now end e → Promised run ram queues out now (ranAs p next place line e)
   running-stop (Line k) t r n s = absurd (miss (1 ∷ 2 ∷ []) 0 tt t)
   running-stop Rest t r n s = done Rest r refl n (s .1 .0) (s .1 .1 .0) (s .1 .1 .1 .0) (s .1 .1 .1 .1 .0) (s .1 .1 .1 .1 .1)
-  running-stop Bad t r n s = done Bad r refl n (s .1 .0) (s .1 .1 .0) (s .1 .1 .1 .0) (s .1 .1 .1 .1 .0) (s .1 .1 .1 .1 .1)
+  running-stop (Bad why) t r n s = done (Bad why) r refl n (s .1 .0) (s .1 .1 .0) (s .1 .1 .1 .0) (s .1 .1 .1 .1 .0) (s .1 .1 .1 .1 .1)
 
 -- where there is no room, it ends too
 pub running-full : (input : List ℕ) (run : Run) (p : Player) (ram : List ℕ) (queues : List ℤ) (line place end : ℕ) (out mid : List ℕ) → hasRoom (length out) end line ≡ false → Running input run (world p ram queues) line place out mid end → Promised run ram queues out mid (ranAs p (Line place) place line end)

@@ -10,12 +10,13 @@ use lib.ListN.{length, drop, length-drop}
 use lib.Seq.{drop-drop}
 use borrow.Author.Tests.{eqb-true, eqb-false}
 use Rattle.num.proofs.Choice.{never}
-use Rattle.log.specs.Lines.{parsedLine}
+use Rattle.log.specs.declared.Line.the-variants.{Malformed}
+use Rattle.log.specs.Lines.{parsedLine, badNumber}
 use Rattle.log_player.specs.declared.Next.{Next}
 use Rattle.log_player.specs.declared.Next.the-variants.{Line, Rest, Bad}
 use Rattle.log_player.specs.Worlds.{World}
 use Rattle.log_player.specs.Applied.{afterLine, printed}
-use Rattle.log_player.specs.Logs.{malformed, restText}
+use Rattle.log_player.specs.Logs.{restText}
 use Rattle.log_player.specs.Steps.{firstLine, nextOf}
 use Rattle.log_player.specs.Runs.{hasRoom, Spot, spotBehind, isLine, foundBy, playsLine, linesPlayed, Run, stopsAt, runFrom}
 use Rattle.log_player.proofs.Stops.{first-short, next-past}
@@ -26,7 +27,7 @@ pub line-within : (rest : List ℕ) (at : ℕ) → isLine (nextOf rest at) ≡ t
 unfolding nextOf
 line-within rest at e = go (eqb (length (firstLine rest)) (length rest)) refl
   where
-    none : (b : Bool) → isLine (cond b Rest Bad) ≡ true → length (firstLine rest) < length rest
+    none : (b : Bool) → isLine (cond b Rest (Bad (badNumber Malformed))) ≡ true → length (firstLine rest) < length rest
     none true h = never (sym h)
     none false h = never (sym h)
 
@@ -43,7 +44,7 @@ line-within rest at e = go (eqb (length (firstLine rest)) (length rest)) refl
 pub line-at : (next : Next) → isLine next ≡ true → (P : Next → Type 0) → ((place : ℕ) → next ≡ Line place → P (Line place)) → P next
 line-at (Line place) e P f = f place refl
 line-at Rest e P f = never (sym e)
-line-at Bad e P f = never (sym e)
+line-at (Bad why) e P f = never (sym e)
 
 module _ (room : ℕ) (input : List ℕ) where
   abbrev holds : Spot → Next

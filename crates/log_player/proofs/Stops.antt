@@ -1,27 +1,23 @@
 -- Where a line ends, and what the next one is. Assumes nothing.
-use mathlib.Core.Path.{_≡_, refl, ap}
+use mathlib.Core.Path.{_≡_, refl, sym, ap, _∙_}
 use mathlib.Core.Bool.{Bool, true, false}
 use mathlib.Core.List.{List, [], _∷_}
 use Prim.Native.Nat.{ℕ, _+_, _-_, _≤_, _<_}
 use native.Mathlib.Numerals.{add-one}
 use native.Mathlib.Omega.{arith}
-use lib.Dec.{eqb}
+use lib.Dec.{eqb, ltb}
 use lib.IntN.{ℤ}
 use lib.ListN.{length, take, drop, getD, length-drop, drop-of-length-le}
 use lib.Seq.{drop-cons}
-use types.Run.{OneOf, miss}
-use denote.Enum.Declared.{tagOf}
-use borrow.Author.Tests.{eq-eqb, ne-eqb, le-leb, lt-leb}
+use borrow.Author.Tests.{eq-eqb, ne-eqb, le-leb, lt-leb, lt-ltb}
 use Rattle.decimal.specs.Written.{Put}
-use Rattle.log.proofs.Line.{the-type}
 use Rattle.log.specs.declared.Line.{Line}
-use Rattle.log.specs.declared.Line.the-variants.{Write, WriteRam, Read, Peek, Clock, Version, Malformed}
-use Rattle.log.specs.Lines.{parsedLine}
+use Rattle.log.specs.declared.Line.the-variants.{Malformed}
+use Rattle.log.specs.Lines.{parsedLine, badNumber, isBad}
 use Rattle.log_player.specs.declared.Player.{Player}
 use Rattle.log_player.specs.declared.Next.{Next}
 use Rattle.log_player.specs.declared.Next.the-variants.{Line as Played, Rest, Bad}
 use Rattle.log_player.specs.Worlds.{World}
-use Rattle.log_player.specs.Logs.{malformed}
 use Rattle.log_player.specs.Steps.{firstLine, nextOf, stepAfter, stepText}
 
 -- ---- the first line, one byte at a time
@@ -61,6 +57,16 @@ pub next-past : (l : List ℕ) (from : ℕ) → length l ≤ from → nextOf (dr
 unfolding nextOf firstLine
 next-past l from h = rw (drop-of-length-le l h)
 
+-- whether a line is bad, by its number
+bad-by : (why : ℕ) (line : Line) → why ≡ badNumber line → (why ≡ 0 → ⊥) → isBad line ≡ true
+bad-by why line e n = lt-ltb 0 (badNumber line) (above (badNumber line) (λ z. n (e ∙ z)))
+  where
+    above : (m : ℕ) → (m ≡ 0 → ⊥) → 0 < m
+    above m k = omega arith
+
+pub good-by : (why : ℕ) (line : Line) → why ≡ badNumber line → why ≡ 0 → isBad line ≡ false
+good-by why line e z = ap (ltb 0) (sym e ∙ z)
+
 module _ (l : List ℕ) (from stop : ℕ) (s : stop ≡ from + length (firstLine (drop from l))) where
   long : from < length l → length (drop from l) ≡ length l - from
   long h = length-drop from l
@@ -69,18 +75,18 @@ module _ (l : List ℕ) (from stop : ℕ) (s : stop ≡ from + length (firstLine
   unfolding nextOf
   next-rest h e k = rw (eq-eqb (length (firstLine (drop from l))) (length (drop from l)) (omega (arith, length-drop from l)), le-leb (length (drop from l)) 16 (omega (arith, length-drop from l)))
 
-  pub next-long : from < length l → stop ≡ length l → 16 < stop - from → nextOf (drop from l) from ≡ Bad
+  pub next-long : from < length l → stop ≡ length l → 16 < stop - from → nextOf (drop from l) from ≡ Bad (badNumber Malformed)
   unfolding nextOf
   next-long h e k = rw (eq-eqb (length (firstLine (drop from l))) (length (drop from l)) (omega (arith, length-drop from l)), lt-leb (length (drop from l)) 16 (omega (arith, length-drop from l)))
 
   within : from < length l → (stop ≡ length l → ⊥) → (length (firstLine (drop from l)) ≡ length (drop from l) → ⊥)
   within h n e = n (omega (arith, length-drop from l))
 
-  pub next-bad : (line : Line) → from < length l → (stop ≡ length l → ⊥) → line ≡ parsedLine (firstLine (drop from l)) → malformed line ≡ true → nextOf (drop from l) from ≡ Bad
+  pub next-bad : (line : Line) (why : ℕ) → from < length l → (stop ≡ length l → ⊥) → line ≡ parsedLine (firstLine (drop from l)) → why ≡ badNumber line → (why ≡ 0 → ⊥) → nextOf (drop from l) from ≡ Bad why
   unfolding nextOf
-  next-bad line h n e m = rw (ne-eqb (length (firstLine (drop from l))) (length (drop from l)) (within h n), ← e, m)
+  next-bad line why h n e m z = rw (ne-eqb (length (firstLine (drop from l))) (length (drop from l)) (within h n), ← e, bad-by why line m z, ← m)
 
-  pub next-line : (line : Line) → from < length l → (stop ≡ length l → ⊥) → line ≡ parsedLine (firstLine (drop from l)) → malformed line ≡ false → nextOf (drop from l) from ≡ Played (stop + 1)
+  pub next-line : (line : Line) → from < length l → (stop ≡ length l → ⊥) → line ≡ parsedLine (firstLine (drop from l)) → isBad line ≡ false → nextOf (drop from l) from ≡ Played (stop + 1)
   unfolding nextOf
   next-line line h n e m = rw (ne-eqb (length (firstLine (drop from l))) (length (drop from l)) (within h n), ← e, m, ← s)
 
@@ -92,16 +98,6 @@ module _ (l : List ℕ) (from stop : ℕ) (s : stop ≡ from + length (firstLine
 
   pub stop-in : from < length l → stop ≤ length l
   stop-in h = omega (arith, length-drop from l, first-short (drop from l))
-
--- a line that is not malformed, by its tag
-pub well-formed : (line : Line) → OneOf (0 ∷ 1 ∷ 2 ∷ 3 ∷ 4 ∷ 5 ∷ []) (tagOf the-type line) → malformed line ≡ false
-well-formed (Write a v) k = refl
-well-formed (WriteRam a v) k = refl
-well-formed (Read a) k = refl
-well-formed (Peek a) k = refl
-well-formed (Clock n) k = refl
-well-formed (Version v) k = refl
-well-formed Malformed k = absurd (miss (0 ∷ 1 ∷ 2 ∷ 3 ∷ 4 ∷ 5 ∷ []) 6 tt k)
 
 -- ---- what `step` promises, where the next thing is known
 abbrev pub Steps : World → ℕ → Next → List ℕ → Next → Player → List ℕ → List ℤ → List ℕ → List ℕ → ℕ → ℕ → Type 0

@@ -8,20 +8,21 @@ use lib.Dec.{eqb, leb}
 use lib.ListN.{length, drop, length-append}
 use lib.Seq.{drop-append-le}
 use borrow.Author.Tests.{eqb-true, eqb-false, leb-false, ne-eqb}
-use Rattle.log.specs.Lines.{parsedLine}
+use Rattle.log.specs.declared.Line.the-variants.{Malformed}
+use Rattle.log.specs.Lines.{parsedLine, badNumber, isBad}
 use Rattle.log.specs.Texts.{badLine}
 use Rattle.log.proofs.Long.{long-line}
 use Rattle.log_player.specs.declared.Next.the-variants.{Line as Played, Rest, Bad}
 use Rattle.log_player.specs.Worlds.{World}
 use Rattle.log_player.specs.Applied.{afterLine, printed}
-use Rattle.log_player.specs.Logs.{malformed, endText, restText}
+use Rattle.log_player.specs.Logs.{endText, restText}
 use Rattle.log_player.specs.Steps.{firstLine, nextOf}
 use Rattle.log_player.proofs.Stops.{first-short}
 
 -- what a line and those behind it print
 abbrev pub lineText : World → ℕ → List ℕ → List ℕ → List ℕ
 lineText w number line rest =
-    cond (malformed (parsedLine line)) (badLine number) (printed w (parsedLine line) ++ restText (afterLine w (parsedLine line)) (suc number) [] rest)
+    cond (isBad (parsedLine line)) (badLine number (badNumber (parsedLine line))) (printed w (parsedLine line) ++ restText (afterLine w (parsedLine line)) (suc number) [] rest)
 
 -- ---- an input that begins with a whole line
 whole : (l : List ℕ) (w : World) (number : ℕ) (pre : List ℕ) → length (firstLine l) < length l → restText w number pre l ≡ lineText w number (pre ++ firstLine l) (drop (suc (length (firstLine l))) l)
@@ -47,12 +48,12 @@ first-kept (c ∷ cs) more h = go (eqb c 10) refl (first-kept cs more)
         rw e (ap (λ (l : List ℕ). c ∷ l) (ih k))
 
 -- ---- an input whose first line is too long, or may be
-too-long : (l : List ℕ) (w : World) (number : ℕ) (pre : List ℕ) → 16 < length pre + length (firstLine l) → restText w number pre l ≡ badLine number
+too-long : (l : List ℕ) (w : World) (number : ℕ) (pre : List ℕ) → 16 < length pre + length (firstLine l) → restText w number pre l ≡ badLine number (badNumber Malformed)
 unfolding restText firstLine
 too-long [] w number pre h = rw (ne-eqb (length pre) 0 (λ e. absurd (omega arith)))
 too-long (c ∷ cs) w number pre h = go (eqb c 10) refl (too-long cs w number (pre ++ (c ∷ [])))
   where
-    go : (b : Bool) → eqb c 10 ≡ b → (16 < length (pre ++ (c ∷ [])) + length (firstLine cs) → restText w number (pre ++ (c ∷ [])) cs ≡ badLine number) → restText w number pre (c ∷ cs) ≡ badLine number
+    go : (b : Bool) → eqb c 10 ≡ b → (16 < length (pre ++ (c ∷ [])) + length (firstLine cs) → restText w number (pre ++ (c ∷ [])) cs ≡ badLine number (badNumber Malformed)) → restText w number pre (c ∷ cs) ≡ badLine number (badNumber Malformed)
     go true e ih =
         let k : 16 < length pre = (let z : 16 < length pre + 0 = rw e at h in omega arith) in
         rw (e, long-line pre k)
@@ -93,39 +94,45 @@ module _ (w : World) (number : ℕ) (rest : List ℕ) (from : ℕ) where
   unfolding nextOf
   step-line place more e = go (eqb (length (firstLine rest)) (length rest)) refl
     where
-      far : cond (leb (length rest) 16) Rest Bad ≡ Played place → (b : Bool) → leb (length rest) 16 ≡ b → ⊥
+      far : cond (leb (length rest) 16) Rest (Bad (badNumber Malformed)) ≡ Played place → (b : Bool) → leb (length rest) 16 ≡ b → ⊥
       far q true t = let z : Rest ≡ Played place = rw t at q in let y : _≡_ {A = ℕ} 0 1 = cc in omega arith
-      far q false t = let z : Bad ≡ Played place = rw t at q in let y : _≡_ {A = ℕ} 0 1 = cc in omega arith
+      far q false t = let z : Bad (badNumber Malformed) ≡ Played place = rw t at q in let y : _≡_ {A = ℕ} 0 1 = cc in omega arith
 
-      played : length (firstLine rest) < length rest → (b : Bool) → malformed (parsedLine (firstLine rest)) ≡ b → eqb (length (firstLine rest)) (length rest) ≡ false → restText w number [] (rest ++ more) ≡ printed w (parsedLine (firstLine rest)) ++ restText (afterLine w (parsedLine (firstLine rest))) (suc number) [] (drop (suc (length (firstLine rest))) rest ++ more)
-      played h true m t = absurd (let z : Bad ≡ Played place = rw (t, m) at e in let y : _≡_ {A = ℕ} 0 1 = cc in omega arith)
+      played : length (firstLine rest) < length rest → (b : Bool) → isBad (parsedLine (firstLine rest)) ≡ b → eqb (length (firstLine rest)) (length rest) ≡ false → restText w number [] (rest ++ more) ≡ printed w (parsedLine (firstLine rest)) ++ restText (afterLine w (parsedLine (firstLine rest))) (suc number) [] (drop (suc (length (firstLine rest))) rest ++ more)
+      played h true m t = absurd (let z : Bad (badNumber (parsedLine (firstLine rest))) ≡ Played place = rw (t, m) at e in let y : _≡_ {A = ℕ} 0 1 = cc in omega arith)
       played h false m t =
           whole (rest ++ more) w number [] (rw (first-kept rest more h, length-append rest more) (omega arith))
           ∙ rw (first-kept rest more h, m, drop-append-le (suc (length (firstLine rest))) rest more (omega arith))
 
       go : (b : Bool) → eqb (length (firstLine rest)) (length rest) ≡ b → restText w number [] (rest ++ more) ≡ printed w (parsedLine (firstLine rest)) ++ restText (afterLine w (parsedLine (firstLine rest))) (suc number) [] (drop (suc (length (firstLine rest))) rest ++ more)
       go true t = absurd (far (rw t at e) (leb (length rest) 16) refl)
-      go false t = played (less (eqb-false (length (firstLine rest)) (length rest) t) (first-short rest)) (malformed (parsedLine (firstLine rest))) refl t
+      go false t = played (less (eqb-false (length (firstLine rest)) (length rest) t) (first-short rest)) (isBad (parsedLine (firstLine rest))) refl t
         where
           less : {a b : ℕ} → (a ≡ b → ⊥) → a ≤ b → a < b
           less n h = omega arith
 
-  -- a malformed line ends it
-  pub step-bad : (more : List ℕ) → nextOf rest from ≡ Bad → restText w number [] (rest ++ more) ≡ badLine number
+  -- a bad line ends it
+  pub step-bad : (why : ℕ) (more : List ℕ) → nextOf rest from ≡ Bad why → restText w number [] (rest ++ more) ≡ badLine number why
   unfolding nextOf
-  step-bad more e = go (eqb (length (firstLine rest)) (length rest)) refl
+  step-bad why more e = go (eqb (length (firstLine rest)) (length rest)) refl
     where
-      open-line : length (firstLine rest) ≡ length rest → (b : Bool) → leb (length rest) 16 ≡ b → eqb (length (firstLine rest)) (length rest) ≡ true → restText w number [] (rest ++ more) ≡ badLine number
-      open-line h true s t = absurd (let z : Rest ≡ Bad = rw (t, s) at e in let y : _≡_ {A = ℕ} 0 1 = cc in omega arith)
-      open-line h false s t = too-long (rest ++ more) w number [] (omega (arith, first-longer rest more h, leb-false (length rest) 16 s))
+      open-line : length (firstLine rest) ≡ length rest → (b : Bool) → leb (length rest) 16 ≡ b → eqb (length (firstLine rest)) (length rest) ≡ true → restText w number [] (rest ++ more) ≡ badLine number why
+      open-line h true s t = absurd (let z : Rest ≡ Bad why = rw (t, s) at e in let y : _≡_ {A = ℕ} 0 1 = cc in omega arith)
+      open-line h false s t =
+          let z : Bad (badNumber Malformed) ≡ Bad why = rw (t, s) at e in
+          let y : badNumber Malformed ≡ why = cc in
+          too-long (rest ++ more) w number [] (omega (arith, first-longer rest more h, leb-false (length rest) 16 s)) ∙ ap (badLine number) y
 
-      closed : length (firstLine rest) < length rest → (b : Bool) → malformed (parsedLine (firstLine rest)) ≡ b → eqb (length (firstLine rest)) (length rest) ≡ false → restText w number [] (rest ++ more) ≡ badLine number
-      closed h true m t = whole (rest ++ more) w number [] (rw (first-kept rest more h, length-append rest more) (omega arith)) ∙ rw (first-kept rest more h, m)
-      closed h false m t = absurd (let z : Played (from + length (firstLine rest) + 1) ≡ Bad = rw (t, m) at e in let y : _≡_ {A = ℕ} 0 1 = cc in omega arith)
+      closed : length (firstLine rest) < length rest → (b : Bool) → isBad (parsedLine (firstLine rest)) ≡ b → eqb (length (firstLine rest)) (length rest) ≡ false → restText w number [] (rest ++ more) ≡ badLine number why
+      closed h true m t =
+          let z : Bad (badNumber (parsedLine (firstLine rest))) ≡ Bad why = rw (t, m) at e in
+          let y : badNumber (parsedLine (firstLine rest)) ≡ why = cc in
+          whole (rest ++ more) w number [] (rw (first-kept rest more h, length-append rest more) (omega arith)) ∙ rw (first-kept rest more h, m) (ap (badLine number) y)
+      closed h false m t = absurd (let z : Played (from + length (firstLine rest) + 1) ≡ Bad why = rw (t, m) at e in let y : _≡_ {A = ℕ} 0 1 = cc in omega arith)
 
-      go : (b : Bool) → eqb (length (firstLine rest)) (length rest) ≡ b → restText w number [] (rest ++ more) ≡ badLine number
+      go : (b : Bool) → eqb (length (firstLine rest)) (length rest) ≡ b → restText w number [] (rest ++ more) ≡ badLine number why
       go true t = open-line (eqb-true (length (firstLine rest)) (length rest) t) (leb (length rest) 16) refl t
-      go false t = closed (less (eqb-false (length (firstLine rest)) (length rest) t) (first-short rest)) (malformed (parsedLine (firstLine rest))) refl t
+      go false t = closed (less (eqb-false (length (firstLine rest)) (length rest) t) (first-short rest)) (isBad (parsedLine (firstLine rest))) refl t
         where
           less : {a b : ℕ} → (a ≡ b → ⊥) → a ≤ b → a < b
           less n h = omega arith
@@ -139,8 +146,8 @@ module _ (w : World) (number : ℕ) (rest : List ℕ) (from : ℕ) where
       go true t =
           let k : 0 + length rest ≡ length rest = omega arith in
           no-line rest w number [] (eqb-true (length (firstLine rest)) (length rest) t) ∙ ap (λ (n : ℕ). endText (w .player) number n) k
-      go false t = tell (malformed (parsedLine (firstLine rest))) refl
+      go false t = tell (isBad (parsedLine (firstLine rest))) refl
         where
-          tell : (b : Bool) → malformed (parsedLine (firstLine rest)) ≡ b → restText w number [] rest ≡ endText (w .player) number (length rest)
-          tell true m = absurd (let z : Bad ≡ Rest = rw (t, m) at e in let y : _≡_ {A = ℕ} 0 1 = cc in omega arith)
+          tell : (b : Bool) → isBad (parsedLine (firstLine rest)) ≡ b → restText w number [] rest ≡ endText (w .player) number (length rest)
+          tell true m = absurd (let z : Bad (badNumber (parsedLine (firstLine rest))) ≡ Rest = rw (t, m) at e in let y : _≡_ {A = ℕ} 0 1 = cc in omega arith)
           tell false m = absurd (let z : Played (from + length (firstLine rest) + 1) ≡ Rest = rw (t, m) at e in let y : _≡_ {A = ℕ} 0 1 = cc in omega arith)

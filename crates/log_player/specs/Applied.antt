@@ -5,7 +5,7 @@ use lib.IntN.{ℤ, pos}
 use lib.ListN.{length, replicate}
 use Rattle.version.specs.Versions.{versionOf}
 use Rattle.log.specs.declared.Line.{Line}
-use Rattle.log.specs.declared.Line.the-variants.{Write, WriteRam, Read, Peek, Clock, Version, Malformed}
+use Rattle.log.specs.declared.Line.the-variants.{Write, WriteRam, Read, Peek, Clock, Version, Malformed, Unmapped}
 use Rattle.log.specs.Texts.{frameLines, readBackLine, peakOf}
 use Rattle.s3w2.specs.declared.Chip.{Chip}
 use Rattle.s3w2.specs.declared.Answer.{Answer}
@@ -76,6 +76,7 @@ effectOf w (Clock n) =
     effect (clockedPlayer (w .player) (w .ram) (w .queues) (silent n) (silent n)) (w .ram) (w .queues) (clockedText (w .player .chip) (w .ram) (w .queues) (silent n) (silent n))
 effectOf w (Version v) = effect (withChip (w .player) (setVersionCalled (w .player .chip) (versionOf v) .chip)) (w .ram) (w .queues) []
 effectOf w Malformed = effect (w .player) (w .ram) (w .queues) []
+effectOf w Unmapped = effect (w .player) (w .ram) (w .queues) []
 
 abbrev pub afterLine : World → Line → World
 afterLine w line = effectOf w line .after

@@ -6,7 +6,7 @@ use Prim.Native.Nat.{ℕ, zero, suc, _+_, _≤_, _<_}
 use lib.Dec.{eqb}
 use lib.ListN.{length, getD}
 use Rattle.log.specs.declared.Line.{Line}
-use Rattle.log.specs.declared.Line.the-variants.{Write, WriteRam, Read, Peek, Clock, Version, Malformed}
+use Rattle.log.specs.declared.Line.the-variants.{Write, WriteRam, Read, Peek, Clock, Version, Malformed, Unmapped}
 use Rattle.log_player.specs.declared.Assigned.{Assigned}
 use Rattle.log_player.specs.declared.Assigned.the-variants.{To, Nothing}
 use Rattle.log_player.specs.Worlds.{World}
@@ -31,6 +31,7 @@ assignedBy ram (Peek address) = Nothing
 assignedBy ram (Clock n) = Nothing
 assignedBy ram (Version v) = Nothing
 assignedBy ram Malformed = Nothing
+assignedBy ram Unmapped = Nothing
 
 -- the world after the first n of such lines, by their addresses and values
 unfoldable pub allWritten : Bool → ℕ → List ℕ → List ℕ → World → World

@@ -17,7 +17,7 @@ textBefore r more = record { world = more .world; number = more .number; from = 
 abbrev pub followed : Next → Run → Run → Run
 followed (Line place) r more = textBefore r more
 followed Rest r more = r
-followed Bad r more = r
+followed (Bad why) r more = r
 
 -- runs over one input, each with an empty text, so many at most behind the first
 unfoldable pub runsOver : ℕ → List ℕ → ℕ → World → ℕ → ℕ → Run
@@ -26,11 +26,11 @@ runsOver room input (suc n) w number from =
     let r = runFrom room input (spot w number from []) in
     followed (r .next) r (runsOver room input n (r .world) (r .number) (r .from))
 
--- nothing follows a malformed line
+-- nothing follows a bad line
 abbrev pub unlessBad : Next → List ℕ → List ℕ
 unlessBad (Line place) text = text
 unlessBad Rest text = text
-unlessBad Bad text = []
+unlessBad (Bad why) text = []
 
 -- what the runs over each part and the closing line print, from a world and a line's number on, where `rest` was left
 unfoldable pub partsPrinted : ℕ → World → ℕ → List ℕ → List (List ℕ) → List ℕ

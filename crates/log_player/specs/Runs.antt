@@ -37,7 +37,7 @@ spotBehind input s =
 abbrev pub isLine : Next → Bool
 isLine (Line place) = true
 isLine Rest = false
-isLine Bad = false
+isLine (Bad why) = false
 
 -- what a run that puts its text into a buffer of some length finds at a spot: where there is no room it looks no further
 unfoldable pub foundBy : ℕ → List ℕ → Spot → Next
@@ -60,11 +60,11 @@ pub record Run : Type 0 where
   pub next : Next
   pub text : List ℕ
 
--- a malformed line is told
+-- a bad line is told
 abbrev pub stopText : ℕ → Next → List ℕ
 stopText number (Line place) = []
 stopText number Rest = []
-stopText number Bad = badLine number
+stopText number (Bad why) = badLine number why
 
 abbrev pub stopsAt : Spot → Next → Run
 stopsAt s next = record { world = s .world; number = s .number; from = s .from; next = next; text = s .text ++ stopText (s .number) next }

@@ -43,6 +43,7 @@ fn assigned_by(line: Line, to_ram: bool) -> Assigned
         Line::Clock(_) => Assigned::Nothing,
         Line::Version(_) => Assigned::Nothing,
         Line::Malformed => Assigned::Nothing,
+        Line::Unmapped => Assigned::Nothing,
     }
 }
 

@@ -20,11 +20,12 @@ pub struct Played {
     pub end: usize,
 }
 
-// What an input holds at a place: a line, which was played, and the place of the next one; no whole line; a malformed line.
+// What an input holds at a place: a line, which was played, and the place of the next one; no whole line; a bad line, and the number of
+// why it is one.
 pub enum Next {
     Line(usize),
     Rest,
-    Bad,
+    Bad(u64),
 }
 
 // A player after a step, and the place behind what the step has printed.

@@ -149,6 +149,7 @@ impl Player {
                 self.with_chip(next, same)
             }
             Line::Malformed => self.with_chip(chip, same),
+            Line::Unmapped => self.with_chip(chip, same),
         }
     }
 }

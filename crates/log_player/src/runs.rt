@@ -31,7 +31,7 @@ fn has_room(length: usize, end: usize, number: u64) -> bool
 
 impl Player {
     // Plays the lines from `from` on, of which the first is the log's line `number`, and puts what they print into out: until
-    // no whole line is left, a line is malformed, or out may have no room for the next line's text.
+    // no whole line is left, a line is bad, or out may have no room for the next line's text.
     pub fn run(
         self,
         input: &[u8],

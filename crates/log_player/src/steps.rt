@@ -1,15 +1,14 @@
 // The next line of an input, and the end of one.
 ghost use mathlib.Core.Path.{_≡_};
 ghost use Prim.Native.Nat.{_+_, _≤_};
-ghost use lib.ListN.{length, drop, getD};
+ghost use lib.ListN.{length, drop};
 ghost use Rattle.decimal.specs.Written.{Put};
 ghost use Rattle.log_player.specs.Worlds.{world};
 ghost use Rattle.log_player.specs.Logs.{endText};
-ghost use Rattle.log_player.specs.Steps.{firstLine, nextOf, stepAfter, stepText, numberOf};
+ghost use Rattle.log_player.specs.Steps.{firstLine, nextOf, stepAfter, stepText};
 use crate::Next;
 use crate::Player;
 use crate::Stepped;
-use log::Line;
 
 // The place of the first byte 10 from `from` on; the input's end where there is none, and `from` where that is past it.
 pub fn line_end(input: &[u8], from: usize) -> usize
@@ -25,19 +24,6 @@ pub fn line_end(input: &[u8], from: usize) -> usize
     i
 }
 
-impl Next {
-    // Document 01's number of what ends a log: 17 for a malformed line; 0 where it goes on.
-    pub fn number(self) -> u8
-        ensures { λ r. ⌜ r ≡ getD (numberOf self) 0 0 ⌝ }
-    {
-        match self {
-            Next::Line(_) => 0,
-            Next::Rest => 0,
-            Next::Bad => 17,
-        }
-    }
-}
-
 impl Player {
     fn stepped(self, next: Next, end: usize) -> Stepped
         ensures player { λ r. ⌜ r .player ≡ self ⌝ }
@@ -51,8 +37,8 @@ impl Player {
         }
     }
 
-    // Plays the line that begins at `from`, the input's line `number`. No well-formed line has more than 16 bytes, so a rest
-    // that is longer and has no byte 10 is malformed.
+    // Plays the line that begins at `from`, the input's line `number`, unless it is bad. No well-formed line has more than 16
+    // bytes, so a rest that is longer and has no byte 10 is malformed.
     pub fn step(
         self,
         input: &[u8],
@@ -88,11 +74,14 @@ impl Player {
             if stop - from <= 16 {
                 return self.stepped(Next::Rest, same);
             }
-            return self.stepped(Next::Bad, log::put_bad(out, at, number));
+            let end = log::put_bad(out, at, number, log::MALFORMED);
+            return self.stepped(Next::Bad(log::MALFORMED as u64), end);
         }
         let line = log::parse(&input[from..stop]);
-        if let Line::Malformed = line {
-            return self.stepped(Next::Bad, log::put_bad(out, at, number));
+        let why = line.number();
+        if why != 0 {
+            let end = log::put_bad(out, at, number, why);
+            return self.stepped(Next::Bad(why as u64), end);
         }
         let played = self.apply(line, ram, queues, out, at);
         let player = played.player;
@@ -106,6 +95,6 @@ impl Player {
         if rest == 0 {
             return log::put_peak(out, at, self.left, self.right);
         }
-        log::put_bad(out, at, number)
+        log::put_bad(out, at, number, log::MALFORMED)
     }
 }

@@ -120,7 +120,7 @@ fn turn(
             going: true,
         },
         Next::Rest => refilled(program, ran, filled, input, text, ram, queues),
-        Next::Bad => stopped(after),
+        Next::Bad(_) => stopped(after),
     }
 }
 

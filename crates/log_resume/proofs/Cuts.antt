@@ -6,23 +6,23 @@ use mathlib.Core.List.{List, [], _∷_, _++_, append-assoc, append-nil}
 use Prim.Native.Nat.{ℕ, suc}
 use lib.Dec.{eqb}
 use Rattle.num.proofs.Choice.{never}
-use Rattle.log.specs.Lines.{parsedLine}
+use Rattle.log.specs.Lines.{parsedLine, badNumber, isBad}
 use Rattle.log.specs.Texts.{badLine}
 use Rattle.log.proofs.Bytes.{line-fits}
 use Rattle.plain_chip.specs.Lists.{Every}
 use Rattle.log_player.specs.Worlds.{World, freshWorld}
 use Rattle.log_player.specs.Applied.{afterLine, printed}
-use Rattle.log_player.specs.Logs.{malformed, restText}
+use Rattle.log_player.specs.Logs.{restText}
 use Rattle.chip_calls.proofs.Every.{tied}
 use Rattle.resume.proofs.Steps.{HeldMachine}
 use Rattle.resume.proofs.Alike.{Alike, resumed-alike}
-use Rattle.log_resume.specs.Cuts.{soundsOf, lastOf, noEnd, WellFormed, half, played, machineOf, fresh, loaded}
+use Rattle.log_resume.specs.Cuts.{soundsOf, lastOf, noEnd, Playable, half, played, machineOf, fresh, loaded}
 use Rattle.log_resume.proofs.Lines.{callOf, call-fits, next-same, alike-printed, alike-after}
 use Rattle.log_resume.proofs.Fresh.{fresh-held, fresh-second}
 
 -- ---- a log prints these lines and then the last one
 module _ (sounds sounds′ last last′ bad : List ℕ) where
-  -- of a line that is ended, malformed or not, and of one that goes on
+  -- of a line that is ended, bad or not, and of one that goes on
   either : (ends wrong : Bool) (out rest rest′ : List ℕ) → rest ≡ sounds ++ last → rest′ ≡ sounds′ ++ last′
       → cond ends (cond wrong bad (out ++ rest)) rest′ ≡ cond ends (cond wrong [] (out ++ sounds)) sounds′ ++ cond ends (cond wrong bad last) last′
   either true true out rest rest′ e f = refl
@@ -33,7 +33,7 @@ pub sounds-and-last : (input : List ℕ) (w : World) (number : ℕ) (line : List
 unfolding restText soundsOf lastOf
 sounds-and-last [] w number line = refl
 sounds-and-last (c ∷ cs) w number line =
-    either _ _ _ _ (badLine number) (eqb c 10) (malformed (parsedLine line)) (printed w (parsedLine line)) _ _ (sounds-and-last cs (afterLine w (parsedLine line)) (suc number) []) (sounds-and-last cs w number (line ++ (c ∷ [])))
+    either _ _ _ _ (badLine number (badNumber (parsedLine line))) (eqb c 10) (isBad (parsedLine line)) (printed w (parsedLine line)) _ _ (sounds-and-last cs (afterLine w (parsedLine line)) (suc number) []) (sounds-and-last cs w number (line ++ (c ∷ [])))
 
 -- ---- players that are alike print alike
 alike-either : (ends wrong : Bool) (x y x′ y′ : List ℕ) → (wrong ≡ false → x ≡ y) → x′ ≡ y′ → cond ends (cond wrong [] x) x′ ≡ cond ends (cond wrong [] y) y′
@@ -45,18 +45,18 @@ sounds-alike : (input : List ℕ) (v w : World) → Alike (machineOf v) (machine
 unfolding soundsOf
 sounds-alike [] v w a line = refl
 sounds-alike (c ∷ cs) v w a line =
-    alike-either (eqb c 10) (malformed (parsedLine line)) _ _ _ _
+    alike-either (eqb c 10) (isBad (parsedLine line)) _ _ _ _
     (λ e. ap₂ (λ (x y : List ℕ). x ++ y) (alike-printed v w a (parsedLine line) (line-fits line)) (sounds-alike cs (afterLine v (parsedLine line)) (afterLine w (parsedLine line)) (alike-after v w a (parsedLine line) (line-fits line) e) []))
     (sounds-alike cs v w a (line ++ (c ∷ [])))
 
 -- ---- the first half
 -- a whole line and what follows it
-sounds-line : (l : List ℕ) (w : World) (pre rest : List ℕ) → noEnd l ≡ true → malformed (parsedLine (pre ++ l)) ≡ false
+sounds-line : (l : List ℕ) (w : World) (pre rest : List ℕ) → noEnd l ≡ true → isBad (parsedLine (pre ++ l)) ≡ false
     → soundsOf w pre (l ++ (10 ∷ rest)) ≡ printed w (parsedLine (pre ++ l)) ++ soundsOf (afterLine w (parsedLine (pre ++ l))) [] rest
 unfolding soundsOf
 sounds-line [] w pre rest h e =
     let n = append-nil pre in
-    ap (λ (b : Bool). cond b [] (printed w (parsedLine pre) ++ soundsOf (afterLine w (parsedLine pre)) [] rest)) (ap (λ (l : List ℕ). malformed (parsedLine l)) (sym n) ∙ e)
+    ap (λ (b : Bool). cond b [] (printed w (parsedLine pre) ++ soundsOf (afterLine w (parsedLine pre)) [] rest)) (ap (λ (l : List ℕ). isBad (parsedLine l)) (sym n) ∙ e)
     ∙ ap (λ (l : List ℕ). printed w (parsedLine l) ++ soundsOf (afterLine w (parsedLine l)) [] rest) (sym n)
 sounds-line (c ∷ l) w pre rest h e = go (eqb c 10) refl (sounds-line l w (pre ++ (c ∷ [])) rest)
   where
@@ -64,24 +64,24 @@ sounds-line (c ∷ l) w pre rest h e = go (eqb c 10) refl (sounds-line l w (pre 
     joined = append-assoc pre (c ∷ []) l
 
     ended : List ℕ
-    ended = cond (malformed (parsedLine pre)) [] (printed w (parsedLine pre) ++ soundsOf (afterLine w (parsedLine pre)) [] (l ++ (10 ∷ rest)))
+    ended = cond (isBad (parsedLine pre)) [] (printed w (parsedLine pre) ++ soundsOf (afterLine w (parsedLine pre)) [] (l ++ (10 ∷ rest)))
 
     part : List ℕ → List ℕ
     part x = printed w (parsedLine x) ++ soundsOf (afterLine w (parsedLine x)) [] rest
 
-    go : (b : Bool) → eqb c 10 ≡ b → (noEnd l ≡ true → malformed (parsedLine ((pre ++ (c ∷ [])) ++ l)) ≡ false → soundsOf w (pre ++ (c ∷ [])) (l ++ (10 ∷ rest)) ≡ part ((pre ++ (c ∷ [])) ++ l))
+    go : (b : Bool) → eqb c 10 ≡ b → (noEnd l ≡ true → isBad (parsedLine ((pre ++ (c ∷ [])) ++ l)) ≡ false → soundsOf w (pre ++ (c ∷ [])) (l ++ (10 ∷ rest)) ≡ part ((pre ++ (c ∷ [])) ++ l))
         → cond (eqb c 10) ended (soundsOf w (pre ++ (c ∷ [])) (l ++ (10 ∷ rest))) ≡ part (pre ++ (c ∷ l))
     go true t ih = never (sym (sym (ap (λ (b : Bool). cond b false (noEnd l)) t) ∙ h))
     go false t ih =
         ap (λ (b : Bool). cond b ended (soundsOf w (pre ++ (c ∷ [])) (l ++ (10 ∷ rest)))) t
-        ∙ ih (sym (ap (λ (b : Bool). cond b false (noEnd l)) t) ∙ h) (ap (λ (x : List ℕ). malformed (parsedLine x)) joined ∙ e)
+        ∙ ih (sym (ap (λ (b : Bool). cond b false (noEnd l)) t) ∙ h) (ap (λ (x : List ℕ). isBad (parsedLine x)) joined ∙ e)
         ∙ ap part joined
 
 no-half : (w : World) (rest : List ℕ) → soundsOf w [] rest ≡ soundsOf w [] [] ++ soundsOf w [] rest
 unfolding soundsOf
 no-half w rest = refl
 
-pub halves : (lines : List (List ℕ)) (w : World) (rest : List ℕ) → Every WellFormed lines → soundsOf w [] (half lines ++ rest) ≡ soundsOf w [] (half lines) ++ soundsOf (played w lines) [] rest
+pub halves : (lines : List (List ℕ)) (w : World) (rest : List ℕ) → Every Playable lines → soundsOf w [] (half lines ++ rest) ≡ soundsOf w [] (half lines) ++ soundsOf (played w lines) [] rest
 halves [] w rest f = no-half w rest
 halves (line ∷ lines) w rest f =
     let out = printed w (parsedLine line) in
@@ -92,15 +92,15 @@ halves (line ∷ lines) w rest f =
     ∙ sym (append-assoc out (soundsOf next [] (half lines)) (soundsOf (played next lines) [] rest))
     ∙ ap (λ (l : List ℕ). l ++ soundsOf (played next lines) [] rest) (sym (sounds-line line w [] (half lines) (f .0 .one) (f .0 .played)))
 
-pub held-played : (lines : List (List ℕ)) (w : World) → HeldMachine (machineOf w) → Every WellFormed lines → HeldMachine (machineOf (played w lines))
+pub held-played : (lines : List (List ℕ)) (w : World) → HeldMachine (machineOf w) → Every Playable lines → HeldMachine (machineOf (played w lines))
 held-played [] w h f = h
 held-played (line ∷ lines) w h f =
     let l = parsedLine line in
     held-played lines (afterLine w l) (subst HeldMachine (sym (next-same w l (f .0 .played))) (tied (machineOf w) h (callOf l) (call-fits l (line-fits line)) .held)) (f .1)
 
--- THE CUT: a log of well-formed lines and whatever follows them prints the lines of its first half, and then those that the second half prints
+-- THE CUT: a log of lines that are not bad and whatever follows them prints the lines of its first half, and then those that the second half prints
 -- when it is played from the state that the first half leaves.
-pub cut : (first : List (List ℕ)) (second : List ℕ) → Every WellFormed first
+pub cut : (first : List (List ℕ)) (second : List ℕ) → Every Playable first
     → soundsOf freshWorld [] (half first ++ second) ≡ soundsOf freshWorld [] (half first) ++ soundsOf (loaded (played freshWorld first)) [] second
 cut first second f =
     let w = played freshWorld first in

@@ -9,9 +9,9 @@ use lib.IntN.{pos}
 use lib.ListN.{length, getD, set, replicate, length-set, length-replicate}
 use Rattle.sizes.specs.Sizes.{queueBuffer}
 use Rattle.num.proofs.Choice.{cond-by}
-use Rattle.log.specs.Lines.{parsedLine}
+use Rattle.log.specs.Lines.{parsedLine, isBad}
 use Rattle.log.specs.declared.Line.{Line}
-use Rattle.log.specs.declared.Line.the-variants.{Write, WriteRam, Read, Peek, Clock, Version, Malformed}
+use Rattle.log.specs.declared.Line.the-variants.{Write, WriteRam, Read, Peek, Clock, Version, Malformed, Unmapped}
 use Rattle.s3w2.specs.Answers.{isDone}
 use Rattle.s3w2.specs.Refusals.{ramRefusal}
 use Rattle.s3w2.specs.Ram.{writePcmRamRam}
@@ -19,13 +19,12 @@ use Rattle.plain_chip.specs.Lists.{Every}
 use Rattle.chip_calls.specs.Code.{code}
 use Rattle.log_player.specs.Worlds.{World, world, freshPlayer, freshWorld}
 use Rattle.log_player.specs.Applied.{effectOf, afterLine, printed}
-use Rattle.log_player.specs.Logs.{malformed}
 use Rattle.log_state.specs.Finding.{soundLine}
 use Rattle.log_state.specs.Lines.{stateLine, stateLines, stateText}
 use Rattle.log_state.specs.Loads.{readLines}
 use Rattle.log_state.proofs.Stated.{no-sound}
 use Rattle.log_state.proofs.Heard.{Skipped, skip-none, skip-both, skip-choice, printed-skipped, all-skipped}
-use Rattle.log_resume.specs.Cuts.{soundsOf, WellFormed, half, played, loaded, CutLog}
+use Rattle.log_resume.specs.Cuts.{soundsOf, Playable, half, played, loaded, CutLog}
 use Rattle.log_resume.proofs.Fresh.{fresh-held}
 use Rattle.log_resume.proofs.Cuts.{held-played, cut}
 use Rattle.log_resume.proofs.Loads.{loads}
@@ -35,7 +34,7 @@ unfolding soundsOf
 sounds-skipped [] w line = skip-none
 sounds-skipped (c ∷ cs) w line =
     skip-choice (eqb c 10) _ _
-    (skip-choice (malformed (parsedLine line)) [] _ skip-none
+    (skip-choice (isBad (parsedLine line)) [] _ skip-none
     (skip-both (printed w (parsedLine line)) (soundsOf (afterLine w (parsedLine line)) [] cs) (printed-skipped w (parsedLine line)) (sounds-skipped cs (afterLine w (parsedLine line)) [])))
     (sounds-skipped cs w (line ++ (c ∷ [])))
 
@@ -62,12 +61,13 @@ same-size w (Peek a) = refl
 same-size w (Clock n) = refl
 same-size w (Version v) = refl
 same-size w Malformed = refl
+same-size w Unmapped = refl
 
 size-played : (lines : List (List ℕ)) (w : World) → length (played w lines .ram) ≡ length (w .ram)
 size-played [] w = refl
 size-played (line ∷ lines) w = size-played lines (afterLine w (parsedLine line)) ∙ same-size w (parsedLine line)
 
-pub fed : (first : List (List ℕ)) (second : List ℕ) → Every WellFormed first → CutLog first second
+pub fed : (first : List (List ℕ)) (second : List ℕ) → Every Playable first → CutLog first second
 fed first second f =
     let w = played freshWorld first in
     record {

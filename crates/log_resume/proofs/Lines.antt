@@ -7,7 +7,8 @@ use lib.IntN.{ℤ}
 use lib.ListN.{length}
 use Rattle.num.proofs.Choice.{never}
 use Rattle.log.specs.declared.Line.{Line}
-use Rattle.log.specs.declared.Line.the-variants.{Write, WriteRam, Read, Peek, Clock, Version, Malformed}
+use Rattle.log.specs.declared.Line.the-variants.{Write, WriteRam, Read, Peek, Clock, Version, Malformed, Unmapped}
+use Rattle.log.specs.Lines.{isBad}
 use Rattle.log.proofs.Bytes.{FitLine}
 use Rattle.log.specs.Texts.{frameLines, readBackLine}
 use Rattle.version.specs.Versions.{versionOf}
@@ -16,7 +17,6 @@ use Rattle.s3w2.specs.declared.Answer.the-variants.{Done, Byte, Sample, Count, 
 use Rattle.s3w2.specs.Registers.{readRegisterCalled, peekRegisterAnswer}
 use Rattle.log_player.specs.Worlds.{World}
 use Rattle.log_player.specs.Applied.{byteAnswered, silent, clockedPlayer, clockedText, effectOf, afterLine, printed}
-use Rattle.log_player.specs.Logs.{malformed}
 use Rattle.call_lists.specs.Calls as list
 use Rattle.call_lists.specs.Calls.{Call, Reply}
 use Rattle.call_lists.specs.Seen.{FitCall}
@@ -25,7 +25,7 @@ use Rattle.chip_calls.specs.Code.{code}
 use Rattle.resume.proofs.Alike.{Alike, same-answer, still-alike}
 use Rattle.log_resume.specs.Cuts.{machineOf}
 
--- the call that a line makes; a malformed one makes none, and a peek, which changes nothing, stands for it
+-- the call that a line makes; a bad one makes none, and a peek, which changes nothing, stands for it
 abbrev pub callOf : Line → Call
 callOf (Write a v) = list.writeRegister a v
 callOf (WriteRam a v) = list.writePcmRam a v
@@ -34,6 +34,7 @@ callOf (Peek a) = list.peekRegister a
 callOf (Clock n) = list.clockMixed (silent n) (silent n)
 callOf (Version v) = list.setVersion (versionOf v)
 callOf Malformed = list.peekRegister 0
+callOf Unmapped = list.peekRegister 0
 
 pub call-fits : (l : Line) → FitLine l → FitCall (callOf l)
 call-fits (Write a v) f = f
@@ -43,9 +44,10 @@ call-fits (Peek a) f = tt
 call-fits (Clock n) f = tt
 call-fits (Version v) f = tt
 call-fits Malformed f = tt
+call-fits Unmapped f = tt
 
 -- ---- what a line leaves
-pub next-same : (w : World) (l : Line) → malformed l ≡ false → machineOf (afterLine w l) ≡ code (machineOf w) (callOf l) .next
+pub next-same : (w : World) (l : Line) → isBad l ≡ false → machineOf (afterLine w l) ≡ code (machineOf w) (callOf l) .next
 unfolding effectOf clockedPlayer code
 next-same w (Write a v) e = refl
 next-same w (WriteRam a v) e = refl
@@ -54,6 +56,7 @@ next-same w (Peek a) e = refl
 next-same w (Clock n) e = refl
 next-same w (Version v) e = refl
 next-same w Malformed e = never e
+next-same w Unmapped e = never e
 
 -- ---- what it prints
 byteIn : Reply → ℕ
@@ -91,6 +94,7 @@ textOf (Peek a) h = readBackLine 80 a (byteIn (h .reply))
 textOf (Clock n) h = framesIn (h .sides)
 textOf (Version v) h = []
 textOf Malformed h = []
+textOf Unmapped h = []
 
 text-same : (w : World) (l : Line) → printed w l ≡ textOf l (code (machineOf w) (callOf l) .answer)
 unfolding effectOf clockedText code
@@ -101,13 +105,14 @@ text-same w (Peek a) = ap (readBackLine 80 a) (byte-in (peekRegisterAnswer (w .p
 text-same w (Clock n) = refl
 text-same w (Version v) = refl
 text-same w Malformed = refl
+text-same w Unmapped = refl
 
 -- ---- two players with the same session fields and the same RAM
 module _ (v w : World) (a : Alike (machineOf v) (machineOf w)) (l : Line) (f : FitLine l) where
   pub alike-printed : printed v l ≡ printed w l
   alike-printed = text-same v l ∙ ap (textOf l) (same-answer (machineOf v) (machineOf w) a (callOf l) (call-fits l f)) ∙ sym (text-same w l)
 
-  pub alike-after : malformed l ≡ false → Alike (machineOf (afterLine v l)) (machineOf (afterLine w l))
+  pub alike-after : isBad l ≡ false → Alike (machineOf (afterLine v l)) (machineOf (afterLine w l))
   alike-after e =
       subst (λ (m : Machine). Alike m (machineOf (afterLine w l))) (sym (next-same v l e))
       (subst (λ (m : Machine). Alike (code (machineOf v) (callOf l) .next) m) (sym (next-same w l e)) (still-alike (machineOf v) (machineOf w) a (callOf l) (call-fits l f)))

@@ -7,43 +7,43 @@ use lib.Dec.{eqb}
 use lib.IntN.{pos}
 use lib.ListN.{length, replicate}
 use Rattle.sizes.specs.Sizes.{queueBuffer}
-use Rattle.log.specs.Lines.{parsedLine}
+use Rattle.log.specs.Lines.{parsedLine, badNumber, isBad}
 use Rattle.log.specs.Texts.{badLine}
 use Rattle.version.specs.declared.SguVersion.the-variants.{«V3_1»}
 use Rattle.s3w2.specs.Fresh.{madeCalled}
 use Rattle.log_player.specs.Worlds.{World, world, freshPlayer, freshWorld}
 use Rattle.log_player.specs.Applied.{afterLine, printed}
-use Rattle.log_player.specs.Logs.{malformed, endText}
+use Rattle.log_player.specs.Logs.{endText}
 use Rattle.log_state.specs.Lines.{stateText}
 use Rattle.log_state.specs.Loads.{readLines, skipped}
 use Rattle.log_state.specs.Loads as load
 use Rattle.chip_calls.specs.Ties.{Machine}
 use Rattle.resume.specs.Stops.{seen, resumed}
 
--- the `F`, `R` and `P` lines that the rest of a log prints, of which the bytes `line` were read already; nothing behind a malformed line
+-- the `F`, `R` and `P` lines that the rest of a log prints, of which the bytes `line` were read already; nothing behind a bad line
 unfoldable pub soundsOf : World → List ℕ → List ℕ → List ℕ
 soundsOf w line [] = []
 soundsOf w line (c ∷ cs) =
     cond (eqb c 10)
-    (cond (malformed (parsedLine line)) [] (printed w (parsedLine line) ++ soundsOf (afterLine w (parsedLine line)) [] cs))
+    (cond (isBad (parsedLine line)) [] (printed w (parsedLine line) ++ soundsOf (afterLine w (parsedLine line)) [] cs))
     (soundsOf w (line ++ (c ∷ [])) cs)
 
--- its last line: the peak, or that a line is malformed
+-- its last line: the peak, or that a line is bad
 unfoldable pub lastOf : World → ℕ → List ℕ → List ℕ → List ℕ
 lastOf w number line [] = endText (w .player) number (length line)
 lastOf w number line (c ∷ cs) =
     cond (eqb c 10)
-    (cond (malformed (parsedLine line)) (badLine number) (lastOf (afterLine w (parsedLine line)) (suc number) [] cs))
+    (cond (isBad (parsedLine line)) (badLine number (badNumber (parsedLine line))) (lastOf (afterLine w (parsedLine line)) (suc number) [] cs))
     (lastOf w number (line ++ (c ∷ [])) cs)
 
--- ---- a half that is played whole: well-formed lines, each ended by byte 10
+-- ---- a half that is played whole: lines that are not bad, each ended by byte 10
 abbrev pub noEnd : List ℕ → Bool
 noEnd [] = true
 noEnd (c ∷ cs) = cond (eqb c 10) false (noEnd cs)
 
-pub record WellFormed (line : List ℕ) : Type 0 where
+pub record Playable (line : List ℕ) : Type 0 where
   pub one : noEnd line ≡ true
-  pub played : malformed (parsedLine line) ≡ false
+  pub played : isBad (parsedLine line) ≡ false
 
 abbrev pub half : List (List ℕ) → List ℕ
 half [] = []

@@ -9,7 +9,7 @@ use lib.ListN.{length, getD, length-append}
 use Rattle.decimal.specs.Written.{render}
 use Rattle.s3w2.specs.declared.Chip.{Chip}
 use Rattle.log.specs.declared.Line.{Line}
-use Rattle.log.specs.declared.Line.the-variants.{Write, WriteRam, Read, Peek, Clock, Version, Malformed}
+use Rattle.log.specs.declared.Line.the-variants.{Write, WriteRam, Read, Peek, Clock, Version, Malformed, Unmapped}
 use Rattle.log.specs.Texts.{commaField, pairLine, frameLine, frameLines}
 use Rattle.log_player.specs.Worlds.{World}
 use Rattle.log_player.specs.Applied.{clockedText, effectOf, printed}
@@ -107,6 +107,7 @@ printed-skipped w (Peek a) = pair-skipped 80 _ _ (omega arith) peek-sound
 printed-skipped w (Clock n) = clocked-skipped (w .player .chip) (w .ram) (w .queues) _ _
 printed-skipped w (Version v) = skip-none
 printed-skipped w Malformed = skip-none
+printed-skipped w Unmapped = skip-none
 
 -- ---- behind such lines stands what no player prints
 stays : (n : ℕ) (rest : List ℕ) → soundLine (getD rest 0 0) 0 ≡ false → skipLines n rest ≡ rest

@@ -14,7 +14,7 @@ struct Summed {
     right: u64,
 }
 
-// A player after a log, and the number of the line that is malformed; 0 where none is.
+// A player after a log, and which of its lines is bad; 0 where none is.
 struct Loaded {
     player: Player,
     bad: u64,

@@ -1,5 +1,5 @@
 use borrow.Author.Needs.{needs}
-use mathlib.Core.Path.{sym, ap}
+use mathlib.Core.Path.{sym, ap, _∙_}
 use Rattle.log.specs.Lines.{writtenRam}
 use Rattle.log.proofs.parsing.write_ram_of.Statement.{statement}
 use Rattle.log.proofs.parsing.write_ram_of.Tie as tie
@@ -7,14 +7,17 @@ use Rattle.log.proofs.parsing.write_ram_of.Tie as tie
 enum-known-two : tie.Need-enum-known-two
 enum-known-two c = search needs
 
+addressed-requires : tie.Need-addressed-requires
+addressed-requires c κs = search needs
+
 enum-told : tie.Need-enum-told
 enum-told c = search needs
 
 returns : tie.Need-returns
-returns c = sym (ap writtenRam (c .before .two .given .1))
+returns c = c .addressed .ensures ∙ sym (ap writtenRam (c .before .before .two .given .1))
 
 returns-2 : tie.Need-returns-2
 returns-2 c = search needs
 
 pub write-ram-of-spec : {M : Type 1} → statement M
-write-ram-of-spec = tie.close (tie.spec enum-known-two enum-told returns returns-2)
+write-ram-of-spec = tie.close (tie.spec enum-known-two addressed-requires enum-told returns returns-2)

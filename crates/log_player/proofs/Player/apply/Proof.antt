@@ -1,6 +1,6 @@
 use borrow.Author.Needs.{needs}
 use Rattle.log_player.specs.Worlds.{world}
-use Rattle.log_player.proofs.Applies.{write-line, ram-line, read-line, peek-line, clock-line, version-line, bad-line}
+use Rattle.log_player.proofs.Applies.{write-line, ram-line, read-line, peek-line, clock-line, version-line, bad-line, unmapped-line}
 use Rattle.log_player.proofs.Player.apply.Statement.{statement}
 use Rattle.log_player.proofs.Player.apply.Tie as tie
 
@@ -82,6 +82,12 @@ enum-told c = search needs
 with-chip-requires-6 : tie.Need-with-chip-requires-6
 with-chip-requires-6 c κs = search needs
 
+enum-told-2 : tie.Need-enum-told-2
+enum-told-2 c = search needs
+
+with-chip-requires-7 : tie.Need-with-chip-requires-7
+with-chip-requires-7 c κs = search needs
+
 same-length : tie.Need-same-length
 same-length c = search needs
 
@@ -124,6 +130,9 @@ returns-6 c = version-line (world (c .before .before .before .before .before .be
 returns-7 : tie.Need-returns-7
 returns-7 c = bad-line (world (c .before .before .before .before .before .before .before .args .self) (c .before .before .before .before .before .before .before .args .ram .now) (c .before .before .before .before .before .before .before .args .queues .now)) _ _ _ _ _ _ (c .before .enum-told .given .1) (c .with-chip6 .ensures .0) (c .before .before .before .least .ensures) (c .with-chip6 .ensures .1)
 
+returns-8 : tie.Need-returns-8
+returns-8 c = unmapped-line (world (c .before .before .before .before .before .before .before .args .self) (c .before .before .before .before .before .before .before .args .ram .now) (c .before .before .before .before .before .before .before .args .queues .now)) _ _ _ _ _ _ (c .before .enum-told2 .given .1) (c .with-chip7 .ensures .0) (c .before .before .before .least .ensures) (c .with-chip7 .ensures .1)
+
 pub apply-spec : {M : Type 1} → statement M
 apply-spec =
     tie.close
@@ -154,6 +163,8 @@ apply-spec =
     with-chip-requires-5
     enum-told
     with-chip-requires-6
+    enum-told-2
+    with-chip-requires-7
     same-length
     returns
     same-length-2
@@ -167,4 +178,5 @@ apply-spec =
     same-length-7
     returns-5
     returns-6
-    returns-7)
+    returns-7
+    returns-8)

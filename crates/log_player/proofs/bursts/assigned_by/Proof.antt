@@ -30,6 +30,9 @@ enum-told-4 c = search needs
 enum-told-5 : tie.Need-enum-told-5
 enum-told-5 c = search needs
 
+enum-told-6 : tie.Need-enum-told-6
+enum-told-6 c = search needs
+
 returns-3 : tie.Need-returns-3
 returns-3 c = to-registers _ _ _ _ (c .before .before .line .given .1) (c .if1 .left)
 
@@ -51,6 +54,9 @@ returns-8 c = search needs
 returns-9 : tie.Need-returns-9
 returns-9 c = search needs
 
+returns-10 : tie.Need-returns-10
+returns-10 c = search needs
+
 pub assigned-by-spec : {M : Type 1} → statement M
 assigned-by-spec =
     tie.close
@@ -64,10 +70,12 @@ assigned-by-spec =
     enum-told-3
     enum-told-4
     enum-told-5
+    enum-told-6
     returns-3
     returns-4
     returns-5
     returns-6
     returns-7
     returns-8
-    returns-9)
+    returns-9
+    returns-10)
