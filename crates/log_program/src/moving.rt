@@ -14,7 +14,7 @@ pub(crate) fn complain(program: Program, reason: &[u8]) {
 
 // Writes the text's bytes before `end` to standard output, and answers whether it could.
 pub(crate) fn written(program: Program, text: &[u8], end: usize) -> bool {
-    if program::write(num::part(text, 0, end)) {
+    if io::write_all(libc::STDOUT_FILENO, num::part(text, 0, end)) {
         return true;
     }
     complain(program, b"the output cannot be written\n");

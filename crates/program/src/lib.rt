@@ -1,13 +1,13 @@
 // What a program does with standard input and standard output: bytes read, moved and written, and what is said where that fails.
 ghost use mathlib.Core.Path.{_≡_};
-ghost use Prim.Native.Nat.{_-_, _≤_};
+ghost use Prim.Native.Nat.{_-_, _≤_, min};
 ghost use lib.ListN.{length, take, drop};
 ghost use Rattle.num.specs.Lists.{part};
 ghost use Rattle.program.specs.Places.{placeAfter};
+ghost use Rattle.program.specs.Reading.{Filled};
 
 mod lines;
 
-pub use lines::Line;
 pub use lines::next_line;
 
 // What a read finds: so many bytes stand in the buffer then; the input has ended; it cannot be read.
@@ -17,14 +17,18 @@ pub enum Input {
     Failed,
 }
 
+// A line in a buffer: its bytes are those from `from` to before `to`, where its closing byte 10 stands. The bytes of the buffer
+// before `filled` have been read. Where no line was found the input has ended.
+pub struct BufferLine {
+    pub from: usize,
+    pub to: usize,
+    pub filled: usize,
+    pub found: bool,
+}
+
 // Writes a text to standard error.
 pub fn say(text: &[u8]) {
     io::write_all(libc::STDERR_FILENO, text);
-}
-
-// Writes a text to standard output, and answers whether it could.
-pub fn write(text: &[u8]) -> bool {
-    io::write_all(libc::STDOUT_FILENO, text)
 }
 
 // Writes the text's bytes before `at` to standard output if fewer than `room` are left behind them, and answers where to go on.
@@ -36,13 +40,17 @@ pub fn flush(text: &[u8], at: usize, room: usize) -> usize
         if room <= text.len() - at {
             return at;
         }
-        write(num::part(text, 0, at));
+        io::write_all(libc::STDOUT_FILENO, num::part(text, 0, at));
     }
     0
 }
 
 // Reads once from standard input, behind the first `kept` bytes. A buffer without room ends the input.
-pub fn read_behind(input: &mut [u8], kept: usize) -> Input {
+pub fn read_behind(input: &mut [u8], kept: usize) -> Input
+    ensures filled { λ r. ⌜ Filled (length (now (input .entry))) kept r ⌝ }
+    ensures front { λ _. ⌜ take (min kept (length (now (input .entry)))) (now (input .exit))
+        ≡ take (min kept (length (now (input .entry)))) (now (input .entry)) ⌝ }
+{
     let start = num::least(kept, input.len());
     if start == input.len() {
         return Input::End;

@@ -5,7 +5,7 @@ mod setting;
 mod showing;
 mod sounding;
 
-use program::Line;
+use program::BufferLine;
 use s3w2::Chip;
 use sizes::QUEUE_BUFFER;
 use version::SguVersion;
@@ -60,7 +60,7 @@ impl Player {
 // Plays every line of the input, and answers the place behind the answers that are not written yet.
 fn play_lines(ram: &mut [u8], queues: &mut [i16], text: &mut [u8], out: &mut [u8]) -> usize {
     let mut player = first(&mut *ram);
-    let mut line = program::next_line(&mut *text, Line::none());
+    let mut line = program::next_line(&mut *text, BufferLine::none());
     let mut turns: u64 = 0xffff_ffff_ffff_ffff;
     while 0 < turns {
         if !line.found {

@@ -14,8 +14,8 @@ returns c = (sym (goes-on _ _ _ (omega arith)), omega arith)
 part-requires : tie.Need-part-requires
 part-requires c κs = search needs
 
-write-requires : tie.Need-write-requires
-write-requires c κs = search needs
+write-all-requires : tie.Need-write-all-requires
+write-all-requires c κs = search needs
 
 returns-2 : tie.Need-returns-2
 returns-2 c = (sym (begins _ _ _ (omega arith)), omega arith)
@@ -24,4 +24,4 @@ returns-3 : tie.Need-returns-3
 returns-3 c = (sym (begins _ _ _ (omega arith)), omega arith)
 
 pub flush-spec : {M : Type 1} → statement M
-flush-spec = tie.close (tie.spec sub-if2 returns part-requires write-requires returns-2 returns-3)
+flush-spec = tie.close (tie.spec sub-if2 returns part-requires write-all-requires returns-2 returns-3)

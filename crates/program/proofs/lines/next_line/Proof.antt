@@ -1,11 +1,14 @@
-use mathlib.Core.Path.{_≡_}
+use mathlib.Core.Path.{_≡_, refl, sym, ap, _∙_}
 use lib.ListN.{length}
+use Rattle.num.proofs.Choice.{never}
+use Rattle.program.specs.declared.BufferLine.{BufferLine}
+use Rattle.program.specs.Reading.{LineIn}
 use borrow.Author.Needs.{needs}
 use Rattle.program.proofs.lines.next_line.Statement.{statement}
 use Rattle.program.proofs.lines.next_line.Tie as tie
 
 abbrev Inv-loop : tie.InvT-loop
-Inv-loop buffer₀ line₀ turns₀ buffer line turns = length buffer ≡ length buffer₀
+Inv-loop buffer₀ line₀ turns₀ buffer line turns = (length buffer ≡ length buffer₀) × LineIn buffer line
 
 abbrev μ-loop : tie.MeasureT-loop
 μ-loop buffer₀ line₀ turns₀ buffer line turns = turns
@@ -17,13 +20,13 @@ line-at-requires : tie.Need-line-at-requires Inv-loop μ-loop
 line-at-requires c κs = search needs
 
 loop-holds : tie.Need-loop-holds Inv-loop μ-loop
-loop-holds c = search needs
+loop-holds c = (refl, c .line-at .ensures)
 
 same-length : tie.Need-same-length Inv-loop μ-loop
-same-length c = search needs
+same-length c = c .before .before .loop .inv .0
 
 returns : tie.Need-returns Inv-loop μ-loop
-returns c = search needs
+returns c = c .before .before .loop .inv .1
 
 keep-requires : tie.Need-keep-requires Inv-loop μ-loop
 keep-requires c κs = search needs
@@ -41,7 +44,7 @@ same-length-2 : tie.Need-same-length-2 Inv-loop μ-loop
 same-length-2 c = search needs
 
 returns-2 : tie.Need-returns-2 Inv-loop μ-loop
-returns-2 c = search needs
+returns-2 c = λ found. never (sym found ∙ ap (λ (l : BufferLine). l .found) (c .none .ensures))
 
 line-at-requires-2 : tie.Need-line-at-requires-2 Inv-loop μ-loop
 line-at-requires-2 c κs = search needs
@@ -56,10 +59,10 @@ loop-again : tie.Need-loop-again Inv-loop μ-loop
 loop-again c = search needs
 
 same-length-3 : tie.Need-same-length-3 Inv-loop μ-loop
-same-length-3 c = search needs
+same-length-3 c = c .before .loop .inv .0
 
 returns-3 : tie.Need-returns-3 Inv-loop μ-loop
-returns-3 c = search needs
+returns-3 c = c .before .loop .inv .1
 
 pub next-line-spec : {M : Type 1} → statement M
 next-line-spec =
