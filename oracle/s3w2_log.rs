@@ -31,11 +31,12 @@ struct Player {
 
 impl Player {
     fn clock(&mut self, frames: u32, out: &mut impl Write) {
-        let (left, right) = self.chip.clock_mixed(frames as usize);
+        let (mut left, mut right) = (vec![0i32; frames as usize], vec![0i32; frames as usize]);
+        self.chip.clock_mixed_into_i32(&mut left, &mut right);
         for (&l, &r) in left.iter().zip(&right) {
-            writeln!(out, "F,{l},{r}").unwrap();
-            self.peak.0 = self.peak.0.max(i32::from(l).abs());
-            self.peak.1 = self.peak.1.max(i32::from(r).abs());
+            writeln!(out, "F,{},{}", saturate_output(l), saturate_output(r)).unwrap();
+            self.peak.0 = self.peak.0.max(l.abs());
+            self.peak.1 = self.peak.1.max(r.abs());
         }
     }
 

@@ -80,6 +80,8 @@ def log(seed, number):
     rng = random.Random(f"{seed} {number}")
     count = rng.choice([0, 1, 2, 10, 100, rng.randrange(1000), rng.randrange(12000)])
     lines = [line(rng) for _ in range(count)]
+    if rng.random() < 0.25:
+        lines[:0] = [each for ch in range(8) for each in sounding(rng, ch, rng.choice([0, 1, 2, 4, 5, 5]), 4, True)] + ["C,100"]
     for _ in range(rng.choice([0, 0, 1, 4])):
         place = rng.randrange(len(lines) + 1)
         lines[place:place] = writes(rng)
@@ -107,15 +109,16 @@ def stream(rng, version, variant, fragments):
     return file, size
 
 
-def queue(rng, ch):
+def queue(rng, ch, loud=False):
     lines = []
     for _ in range(rng.choice([1, 20, rng.randrange(200), 1024 if rng.random() < 0.1 else 3])):
-        lines += [f"W,{2048 + 32 * ch + 12},{rng.randrange(256)}", f"W,{2048 + 32 * ch + 13},{rng.randrange(256)}"]
+        high = rng.choice([127, 128]) if loud else rng.randrange(256)
+        lines += [f"W,{2048 + 32 * ch + 12},{high}", f"W,{2048 + 32 * ch + 13},{rng.randrange(256)}"]
     return lines
 
 
-def sounding(rng, ch, kind, version):
-    """A voice that sounds: its registers, and what it plays."""
+def sounding(rng, ch, kind, version, loud=False):
+    """A voice that sounds: its registers, and what it plays; a loud one at full volume, on both sides."""
     start, lines = 8192 * ch, []
     end, loop = start + rng.randrange(1, 300), start + rng.randrange(0, 200)
     if kind == 0:
@@ -128,24 +131,28 @@ def sounding(rng, ch, kind, version):
         end = start + len(file)
         loop = rng.choice([0, start, start + 16 + size * rng.randrange((len(file) - 16) // size)])
     elif kind == 5:
-        lines += queue(rng, ch)
+        lines += queue(rng, ch, loud)
     frequency = rng.choice([rng.randrange(65536), rng.randrange(3000), 48000 if kind == 4 else rng.randrange(9)])
     lines += number(ch, 2, kind, 1) + number(ch, 0, frequency, 2) + number(ch, 3, rng.choice([255, rng.randrange(256)]), 1)
-    lines += number(ch, 4, rng.randrange(256), 1) + number(ch, 5, rng.randrange(7) << 3 | rng.randrange(8), 1)
+    if loud:
+        lines += number(ch, 3, 255, 1)
+    lines += number(ch, 4, 255 if loud else rng.randrange(256), 1) + number(ch, 5, rng.randrange(7) << 3 | rng.randrange(8), 1)
     lines += number(ch, 6, rng.choice([rng.randrange(65536), rng.randrange(300)]), 2) + number(ch, 8, rng.randrange(65536), 2)
     lines += number(ch, 0x0B, rng.randrange(2), 1) + number(ch, 0x1A, rng.randrange(8), 1)
     return lines + number(ch, 0x10, start, 3) + number(ch, 0x13, end, 3) + number(ch, 0x16, loop, 3) + number(ch, 0x19, rng.choice([1, 3, 3]), 1)
 
 
 def score(seed, number, length=0):
-    """The lines of a score: eight voices of every kind and `length` lines behind them; where that is 0, up to four voices and 120 lines."""
+    """The lines of a score: eight voices of every kind and `length` lines behind them; where that is 0, up to four voices and 120
+    lines, or eight loud voices, whose sum often goes over."""
     rng = random.Random(f"{seed} {number} score")
     version = rng.choice([2, 3, 4] if length else range(5))
-    kinds = rng.sample([0, 0, 1, 2, 4, 4, 5, 5], 8 if length else rng.randrange(1, 5))
+    loud = rng.random() < 0.25
+    kinds = rng.sample([0, 0, 1, 2, 4, 4, 5, 5], 8 if length or loud else rng.randrange(1, 5))
     queues = [ch for ch, kind in enumerate(kinds) if kind == 5] or range(8)
     lines = [f"V,{version}"]
     for ch, kind in enumerate(kinds):
-        lines += sounding(rng, ch, kind, version)
+        lines += sounding(rng, ch, kind, version, loud)
     for _ in range(length or rng.randrange(120)):
         kind = rng.randrange(12)
         if kind < 7:
@@ -162,10 +169,11 @@ def score(seed, number, length=0):
 
 
 class Tally:
-    """What the logs that were compared print: how many there are, how they end, how many frames they have."""
+    """What the logs that were compared print: how many there are, how they end, how many peaks a clamped frame cannot have, how many
+    frames they have."""
 
     def __init__(self):
-        self.logs, self.frames, self.bad = 0, 0, {b"17": 0, b"27": 0}
+        self.logs, self.frames, self.over, self.bad = 0, 0, 0, {b"17": 0, b"27": 0}
 
     def add(self, printed):
         last = printed[:-1].split(b"\n")[-1].split(b",")
@@ -173,9 +181,12 @@ class Tally:
         self.frames += printed.count(b"F")
         if last[0] == b"bad":
             self.bad[last[2]] += 1
+        elif max(int(side) for side in last[1:]) > 32768:
+            self.over += 1
 
     def __str__(self):
-        return f"{self.logs} logs ({self.bad[b'17']} ended by a bad line with 17, {self.bad[b'27']} with 27), {self.frames} frames"
+        ends = f"{self.bad[b'17']} ended by a bad line with 17, {self.bad[b'27']} with 27, {self.over} with a peak over 32768"
+        return f"{self.logs} logs ({ends}), {self.frames} frames"
 
 
 def main():

@@ -5,8 +5,8 @@ use native.Mathlib.Numerals.{add-one}
 use native.Mathlib.Omega.{arith}
 use lib.IntN.{ℤ, pos}
 use lib.ListN.{length, getD, length-append}
-use mir.Syntax.{w16}
-use mir.Val.{SFits}
+use Rattle.num.proofs.Fit.{clamp16-fits}
+use Rattle.num.specs.Integers.{clamp16}
 use Rattle.decimal.specs.Written.{decimal, render}
 use Rattle.decimal.proofs.Writing.{width-below, width-most, sample-width}
 use Rattle.log.specs.Texts.{commaField, pairLine, frameLine, frameLines, readBackLine, badLine}
@@ -28,14 +28,15 @@ unfolding badLine
 bad-length line why h k =
     omega (arith, width-most line h, width-below 2 why (omega arith), length-append (decimal line) (44 ∷ (decimal why ++ (10 ∷ []))), length-append (decimal why) (10 ∷ []))
 
-frame-length : (a b : ℤ) → SFits w16 a → SFits w16 b → length (frameLine a b) ≤ 16
-frame-length a b f g = omega (arith, pair-length (70 ∷ []) a b 6 6 (sample-width a f) (sample-width b g))
+frame-length : (a b : ℤ) → length (frameLine a b) ≤ 16
+frame-length a b =
+    omega (arith, pair-length (70 ∷ []) (clamp16 a) (clamp16 b) 6 6 (sample-width (clamp16 a) (clamp16-fits a)) (sample-width (clamp16 b) (clamp16-fits b)))
 
 pub frames-length-none : (left right : List ℤ) → length (frameLines left right 0) ≤ 16 * 0
 unfolding frameLines
 frames-length-none left right = omega arith
 
-pub frames-length-next : (left right : List ℤ) (i : ℕ) → length (frameLines left right i) ≤ 16 * i → SFits w16 (getD left i (pos 0)) → SFits w16 (getD right i (pos 0)) → length (frameLines left right (i + 1)) ≤ 16 * (i + 1)
+pub frames-length-next : (left right : List ℤ) (i : ℕ) → length (frameLines left right i) ≤ 16 * i → length (frameLines left right (i + 1)) ≤ 16 * (i + 1)
 unfolding frameLines
-frames-length-next left right i h f g =
-    rw (add-one i) (omega (arith, h, frame-length _ _ f g, length-append (frameLines left right i) (frameLine (getD left i (pos 0)) (getD right i (pos 0)))))
+frames-length-next left right i h =
+    rw (add-one i) (omega (arith, h, frame-length (getD left i (pos 0)) (getD right i (pos 0)), length-append (frameLines left right i) (frameLine (getD left i (pos 0)) (getD right i (pos 0)))))

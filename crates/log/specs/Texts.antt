@@ -1,8 +1,9 @@
--- What a log prints, line by line, and the largest frame values.
+-- What a log prints, line by line, and the largest frame values: frames are printed clamped, a peak counts them ahead of the clamp.
 use mathlib.Core.List.{List, [], _∷_, _++_}
 use Prim.Native.Nat.{ℕ, zero, suc, max}
 use lib.IntN.{ℤ, pos, natAbs}
 use lib.ListN.{getD}
+use Rattle.num.specs.Integers.{clamp16}
 use Rattle.decimal.specs.Written.{decimal, render}
 
 -- a number behind a comma
@@ -13,9 +14,9 @@ commaField z = 44 ∷ render z
 unfoldable pub pairLine : List ℕ → ℤ → ℤ → List ℕ
 pairLine word a b = word ++ (commaField a ++ (commaField b ++ (10 ∷ [])))
 
--- `F`, left, right
+-- `F`, left, right, each clamped
 abbrev pub frameLine : ℤ → ℤ → List ℕ
-frameLine left right = pairLine (70 ∷ []) left right
+frameLine left right = pairLine (70 ∷ []) (clamp16 left) (clamp16 right)
 
 -- the lines of the first n frames
 unfoldable pub frameLines : List ℤ → List ℤ → ℕ → List ℕ

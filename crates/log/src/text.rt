@@ -23,15 +23,18 @@ fn put_pair(out: &mut [u8], at: usize, word: &[u8], a: i64, b: i64) -> usize
     decimal::put_byte(out, third, 10)
 }
 
-// Puts the line of a frame: `F`, left, right.
-fn put_frame(out: &mut [u8], at: usize, left: i16, right: i16) -> usize
+// Puts the line of a frame: `F`, left, right, each clamped.
+fn put_frame(out: &mut [u8], at: usize, left: i32, right: i32) -> usize
     ensures { λ r. ⌜ Put (now (out .entry)) (now (out .exit)) at (frameLine left right) r ⌝ }
 {
-    put_pair(out, at, b"F", left as i64, right as i64)
+    let letter = decimal::put_byte(out, at, 70);
+    let first = put_field(out, letter, num::clamp16(left) as i64);
+    let second = put_field(out, first, num::clamp16(right) as i64);
+    decimal::put_byte(out, second, 10)
 }
 
-// Puts a line for each frame of two sides, as many as the shorter has.
-pub fn put_frames(out: &mut [u8], at: usize, left: &[i16], right: &[i16]) -> usize
+// Puts a line for each frame of two sides, as many as the shorter has; the sides are not clamped, the lines are.
+pub fn put_frames(out: &mut [u8], at: usize, left: &[i32], right: &[i32]) -> usize
     ensures put { λ r. ⌜ Put (now (out .entry)) (now (out .exit)) at
         (frameLines (now (left .entry)) (now (right .entry)) (min (length (now (left .entry))) (length (now (right .entry))))) r ⌝ }
     ensures bound { λ _. ⌜ length (frameLines (now (left .entry)) (now (right .entry))
@@ -82,13 +85,13 @@ fn larger(a: u32, b: u32) -> u32
 }
 
 // The largest of a number and a side's sizes.
-pub fn peak(before: u32, side: &[i16]) -> u32
+pub fn peak(before: u32, side: &[i32]) -> u32
     ensures { λ r. ⌜ r ≡ peakOf before (now (side .entry)) (length (now (side .entry))) ⌝ }
 {
     let mut largest = before;
     let mut i = 0;
     while i < side.len() {
-        largest = larger(largest, num::magnitude(side[i] as i32));
+        largest = larger(largest, num::magnitude(side[i]));
         i += 1;
     }
     largest

@@ -17,7 +17,8 @@ use Rattle.s3w2.specs.declared.Answer.{Answer}
 use Rattle.s3w2.specs.Fresh.{setVersionCalled}
 use Rattle.s3w2.specs.Ram.{writePcmRamCalled, writePcmRamRam}
 use Rattle.s3w2.specs.Registers.{writeRegisterCalled, writeRegisterBuffer, readRegisterCalled, peekRegisterAnswer}
-use Rattle.s3w2.specs.Mixing.{clockMixedCalled, clockMixedLeft, clockMixedRight}
+use Rattle.sides.specs.Sides.{wrapping}
+use Rattle.s3w2.specs.Mixing.{mixedI32Called, mixedLeft, mixedRight}
 use Rattle.log_player.specs.declared.Player.{Player}
 use Rattle.log_player.specs.Worlds.{World, withChip}
 use Rattle.log_player.specs.Applied.{byteAnswered, clockedPlayer, clockedText, silent, effectOf, afterLine, printed}
@@ -87,18 +88,18 @@ abbrev pub played : Called → ℕ → ℕ → Player
 played called left right = record { chip = called .chip; left = left; right = right }
 
 module _ (p : Player) (ram : List ℕ) (queues left right l r : List ℤ) where
-  pub frames-played : (called : Called) (a b : ℕ) → called ≡ clockMixedCalled (p .chip) ram queues left right → l ≡ clockMixedLeft (p .chip) ram queues left right → r ≡ clockMixedRight (p .chip) ram queues left right → a ≡ peakOf (p .left) l (length l) → b ≡ peakOf (p .right) r (length r) → played called a b ≡ clockedPlayer p ram queues left right
+  pub frames-played : (called : Called) (a b : ℕ) → called ≡ mixedI32Called (p .chip) ram queues left right → l ≡ mixedLeft wrapping (p .chip) ram queues left right → r ≡ mixedRight wrapping (p .chip) ram queues left right → a ≡ peakOf (p .left) l (length l) → b ≡ peakOf (p .right) r (length r) → played called a b ≡ clockedPlayer p ram queues left right
   unfolding clockedPlayer
   frames-played called a b c x y s t = ap (λ (k : Called). played k a b) c ∙ ap (λ (n : ℕ). played k n b) (s ∙ ap (λ (z : List ℤ). peakOf (p .left) z (length z)) x) ∙ ap (played k _) (t ∙ ap (λ (z : List ℤ). peakOf (p .right) z (length z)) y)
     where
       k : Called
-      k = clockMixedCalled (p .chip) ram queues left right
+      k = mixedI32Called (p .chip) ram queues left right
 
-  pub frames-printed : (out now : List ℕ) (at end : ℕ) → l ≡ clockMixedLeft (p .chip) ram queues left right → r ≡ clockMixedRight (p .chip) ram queues left right → Put out now at (frameLines l r (min (length l) (length r))) end → Put out now at (clockedText (p .chip) ram queues left right) end
+  pub frames-printed : (out now : List ℕ) (at end : ℕ) → l ≡ mixedLeft wrapping (p .chip) ram queues left right → r ≡ mixedRight wrapping (p .chip) ram queues left right → Put out now at (frameLines l r (min (length l) (length r))) end → Put out now at (clockedText (p .chip) ram queues left right) end
   unfolding clockedText
   frames-printed out now at end x y t = rw (x, y) at t
 
-  pub frames-short : (n : ℕ) → l ≡ clockMixedLeft (p .chip) ram queues left right → r ≡ clockMixedRight (p .chip) ram queues left right → length l ≡ n → length (frameLines l r (min (length l) (length r))) ≤ 16 * min (length l) (length r) → length (clockedText (p .chip) ram queues left right) ≤ 16 * n
+  pub frames-short : (n : ℕ) → l ≡ mixedLeft wrapping (p .chip) ram queues left right → r ≡ mixedRight wrapping (p .chip) ram queues left right → length l ≡ n → length (frameLines l r (min (length l) (length r))) ≤ 16 * min (length l) (length r) → length (clockedText (p .chip) ram queues left right) ≤ 16 * n
   unfolding clockedText
   frames-short n x y k t =
       let s : length (frameLines l r (min (length l) (length r))) ≤ 16 * n = omega (arith, t, k) in

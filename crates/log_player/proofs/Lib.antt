@@ -6,3 +6,4 @@ pub mod Spots
 pub mod Running
 pub mod Bursting
 pub mod Parted
+pub mod Overs

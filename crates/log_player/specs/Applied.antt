@@ -13,7 +13,8 @@ use Rattle.s3w2.specs.declared.Answer.the-variants.{Done, Byte, Sample, Count, 
 use Rattle.s3w2.specs.Fresh.{setVersionCalled}
 use Rattle.s3w2.specs.Ram.{writePcmRamCalled, writePcmRamRam}
 use Rattle.s3w2.specs.Registers.{writeRegisterCalled, writeRegisterBuffer, readRegisterCalled, peekRegisterAnswer}
-use Rattle.s3w2.specs.Mixing.{clockMixedCalled, clockMixedLeft, clockMixedRight}
+use Rattle.sides.specs.Sides.{wrapping}
+use Rattle.s3w2.specs.Mixing.{mixedI32Called, mixedLeft, mixedRight}
 use Rattle.log_player.specs.declared.Player.{Player}
 use Rattle.log_player.specs.Worlds.{World, world, withChip}
 
@@ -30,13 +31,13 @@ byteAnswered QueueBuffer = 0
 byteAnswered NotAccepted = 0
 byteAnswered StemBuffer = 0
 
--- ---- frames mixed into two sides
+-- ---- frames added to two sides, not clamped
 module _ (chip : Chip) (ram : List ℕ) (queues left right : List ℤ) where
   abbrev pub leftSide : List ℤ
-  leftSide = clockMixedLeft chip ram queues left right
+  leftSide = mixedLeft wrapping chip ram queues left right
 
   abbrev pub rightSide : List ℤ
-  rightSide = clockMixedRight chip ram queues left right
+  rightSide = mixedRight wrapping chip ram queues left right
 
   -- what they print
   unfoldable pub clockedText : List ℕ
@@ -45,7 +46,7 @@ module _ (chip : Chip) (ram : List ℕ) (queues left right : List ℤ) where
 -- the player after them
 unfoldable pub clockedPlayer : Player → List ℕ → List ℤ → List ℤ → List ℤ → Player
 clockedPlayer p ram queues left right = record {
-  chip = clockMixedCalled (p .chip) ram queues left right .chip;
+  chip = mixedI32Called (p .chip) ram queues left right .chip;
   left = peakOf (p .left) (leftSide (p .chip) ram queues left right) (length (leftSide (p .chip) ram queues left right));
   right = peakOf (p .right) (rightSide (p .chip) ram queues left right) (length (rightSide (p .chip) ram queues left right));
 }

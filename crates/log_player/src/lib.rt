@@ -7,7 +7,7 @@ mod steps;
 use s3w2::Chip;
 pub use steps::line_end;
 
-// A chip, and the largest absolute frame values that it has given.
+// A chip, and the largest absolute frame values that it has given, ahead of the clamp.
 pub struct Player {
     pub chip: Chip,
     pub left: u32,

@@ -58,13 +58,13 @@ impl Player {
         Played { player, end }
     }
 
-    // Frames mixed into two sides, and printed.
+    // Frames added to two sides, and printed.
     fn clock_over(
         self,
         ram: &[u8],
         queues: &mut [i16],
-        left: &mut [i16],
-        right: &mut [i16],
+        left: &mut [i32],
+        right: &mut [i32],
         out: &mut [u8],
         at: usize,
     ) -> Played
@@ -76,7 +76,7 @@ impl Player {
             (now (right .entry))) ≤ 16 * length (now (left .entry)) ⌝ }
     {
         let chip = self.chip;
-        let called = chip.clock_mixed(ram, queues, &mut *left, &mut *right);
+        let called = chip.clock_mixed_into_i32(ram, queues, &mut *left, &mut *right);
         let next = called.chip;
         let end = log::put_frames(out, at, left, right);
         let player = Player {
@@ -94,8 +94,8 @@ impl Player {
             (clockedText (self .chip) (now (ram .entry)) (now (queues .entry)) (silent frames) (silent frames)) (r .end) ⌝ }
         ensures bound { λ _. ⌜ length (clockedText (self .chip) (now (ram .entry)) (now (queues .entry)) (silent frames) (silent frames)) ≤ 16000 ⌝ }
     {
-        let mut left = [0i16; 1000];
-        let mut right = [0i16; 1000];
+        let mut left = [0i32; 1000];
+        let mut right = [0i32; 1000];
         let n = num::least(frames as usize, 1000);
         self.clock_over(ram, queues, &mut left[..n], &mut right[..n], out, at)
     }

@@ -3,3 +3,4 @@ pub mod Fresh
 pub mod Cuts
 pub mod Loads
 pub mod Fed
+pub mod Peaks

@@ -6,6 +6,7 @@ use Prim.Native.Nat.{ℕ, zero, suc, _+_, _-_, _≤_, _<_}
 use native.Mathlib.Omega.{arith}
 use lib.IntN.{ℤ, pos}
 use lib.ListN.{length, getD, length-append}
+use Rattle.num.specs.Integers.{clamp16}
 use Rattle.decimal.specs.Written.{render}
 use Rattle.s3w2.specs.declared.Chip.{Chip}
 use Rattle.log.specs.declared.Line.{Line}
@@ -91,7 +92,7 @@ unfolding frameLines
 frames-skipped left right zero = skip-none
 frames-skipped left right (suc n) =
     skip-both (frameLines left right n) (frameLine (getD left n (pos 0)) (getD right n (pos 0))) (frames-skipped left right n)
-    (pair-skipped 70 (getD left n (pos 0)) (getD right n (pos 0)) (omega arith) frame-sound)
+    (pair-skipped 70 (clamp16 (getD left n (pos 0))) (clamp16 (getD right n (pos 0))) (omega arith) frame-sound)
 
 clocked-skipped : (chip : Chip) (ram : List ℕ) (queues left right : List ℤ) → Skipped (clockedText chip ram queues left right)
 unfolding clockedText

@@ -4,9 +4,8 @@ use Prim.Native.Nat.{_≤_, _-_}
 use native.Mathlib.Omega.{arith}
 use lib.ListN.{length, getD}
 use lib.IntN.{pos}
-use mir.Syntax.{w16, w32}
+use mir.Syntax.{w32}
 use mir.Val.{SFits}
-use Rattle.num.proofs.Fit.{widen16-32}
 use Rattle.num.proofs.Integers.{back}
 use Rattle.log.specs.Texts.{peakOf}
 use Rattle.log.proofs.Texts.{peak-none, peak-next}
@@ -28,12 +27,9 @@ mul-magnitude c = search needs
 shared-slice-copy-out-magnitude : tie.Need-shared-slice-copy-out-magnitude Inv-loop μ-loop
 shared-slice-copy-out-magnitude c = search needs
 
--- a value of a side is a number of 16 bits
-sample : (c : tie.After-magnitude-arg Inv-loop μ-loop) → SFits w16 (getD (c .before .before .before .args .side .now) (c .before .before .loop .i) (pos 0))
-sample c = record { sfits = c .magnitude-arg .given }
-
-cast-magnitude : tie.Need-cast-magnitude Inv-loop μ-loop
-cast-magnitude c = rw (back w16 _ (sample c)) (widen16-32 (sample c))
+-- a value of a side is a number of 32 bits
+value : (c : tie.After-magnitude-arg Inv-loop μ-loop) → SFits w32 (getD (c .before .before .before .args .side .now) (c .before .before .loop .i) (pos 0))
+value c = record { sfits = c .magnitude-arg .given }
 
 magnitude-requires : tie.Need-magnitude-requires Inv-loop μ-loop
 magnitude-requires c κs = search needs
@@ -49,8 +45,8 @@ loop-less c = omega arith
 
 loop-again : tie.Need-loop-again Inv-loop μ-loop
 loop-again c =
-    let fits = sample (c .before .before) in
-    (omega arith, peak-next _ _ _ _ _ _ (rw (back w16 _ fits, back w32 _ (widen16-32 fits)) at (c .before .magnitude .ensures)) (c .before .before .before .before .loop .inv .1) (c .larger .ensures))
+    let fits = value (c .before .before) in
+    (omega arith, peak-next _ _ _ _ _ _ (rw (back w32 _ fits) at (c .before .magnitude .ensures)) (c .before .before .before .before .loop .inv .1) (c .larger .ensures))
 
 returns : tie.Need-returns Inv-loop μ-loop
 returns c =
@@ -66,7 +62,6 @@ peak-spec =
     loop-holds
     mul-magnitude
     shared-slice-copy-out-magnitude
-    cast-magnitude
     magnitude-requires
     larger-requires
     add-i

@@ -5,7 +5,7 @@ use native.Mathlib.Omega.{arith}
 use lib.ListN.{length, getD}
 use lib.IntN.{pos}
 use mir.Val.{SFits}
-use mir.Syntax.{w16}
+use mir.Syntax.{w32}
 use Rattle.num.proofs.Integers.{back}
 use Rattle.decimal.specs.Written.{Put}
 use Rattle.decimal.proofs.Writing.{put-long}
@@ -54,9 +54,9 @@ loop-less c = omega arith
 loop-again : tie.Need-loop-again Inv-loop μ-loop
 loop-again c =
     let start = c .before .before .before .before .before .before .before .before .before .before .before in
-    let l : SFits w16 (getD (start .args .left .now) (c .before .before .before .before .before .before .before .loop .i) (pos 0)) = record { sfits = c .before .before .before .before .put-frame-arg2 .given } in
-    let r : SFits w16 (getD (start .args .right .now) (c .before .before .before .before .before .before .before .loop .i) (pos 0)) = record { sfits = c .before .before .before .put-frame-arg3 .given } in
-    (omega arith, frames-length-next (start .args .left .now) (start .args .right .now) (c .before .before .before .before .before .before .before .loop .i) (c .before .before .before .before .before .before .before .loop .inv .1) l r, frames-next (start .args .out .now) _ _ (start .args .left .now) (start .args .right .now) (start .args .at) _ _ (c .before .before .before .before .before .before .before .loop .i) (c .before .before .before .before .before .before .before .loop .inv .2) (rw (back w16 _ l, back w16 _ r) at (c .before .before .put-frame .ensures)))
+    let l : SFits w32 (getD (start .args .left .now) (c .before .before .before .before .before .before .before .loop .i) (pos 0)) = record { sfits = c .before .before .before .before .put-frame-arg2 .given } in
+    let r : SFits w32 (getD (start .args .right .now) (c .before .before .before .before .before .before .before .loop .i) (pos 0)) = record { sfits = c .before .before .before .put-frame-arg3 .given } in
+    (omega arith, frames-length-next (start .args .left .now) (start .args .right .now) (c .before .before .before .before .before .before .before .loop .i) (c .before .before .before .before .before .before .before .loop .inv .1), frames-next (start .args .out .now) _ _ (start .args .left .now) (start .args .right .now) (start .args .at) _ _ (c .before .before .before .before .before .before .before .loop .i) (c .before .before .before .before .before .before .before .loop .inv .2) (rw (back w32 _ l, back w32 _ r) at (c .before .before .put-frame .ensures)))
 
 same-length : tie.Need-same-length Inv-loop μ-loop
 same-length c = put-long (c .before .before .before .before .before .args .out .now) _ (c .before .before .before .before .before .args .at) (c .before .loop .end) (frameLines (c .before .before .before .before .before .args .left .now) (c .before .before .before .before .before .args .right .now) (c .before .loop .i)) (c .before .loop .inv .2)
