@@ -28,7 +28,7 @@ use Rattle.s3w2.specs.Answers.{unless, answered, called}
 use Rattle.s3w2.specs.Chips.{withCore}
 use Rattle.s3w2.specs.Refusals.{soundRefusal}
 use Rattle.s3w2.specs.Sound.{oneTickEnds, generateSampleCalled, framed, framedEnded, clockCalled, clockStems}
-use Rattle.s3w2.proofs.Endings.{mixed-core, active-in, tick-ended}
+use Rattle.s3w2.proofs.Endings.{mixed-core, tick-ended}
 use Rattle.s3w2.specs.Mixing as mixing
 use Rattle.s3w2.specs.Mixing.{mixedAnswered, mixedCalled, mixedI32Called, mixedLeft, mixedRight, mixedSides, clockMixedCalled, clockMixedLeft, clockMixedRight}
 use Rattle.plain_chip.specs.Lists.{Every}
@@ -111,7 +111,7 @@ module _ (t : Texts) (chip : Chip) (ram : List ℕ) (queues : List ℤ) (held : 
       ends : (b : Bool) → ltb ch numChannels ≡ b → cond b (oneTickEnds chip ram queues ch) false ≡ list.endedAt slots t w (chips.withVoices w (pick b .voices)) ch
       ends true h =
           let i : ch < numChannels = ltb-true ch numChannels h in
-          sym (tick-ended version ram queues k (tick .core) ch (omega arith) refl) ∙ ap₂ off (active-in version ram queues k ch (omega arith)) (active-in version ram queues (tick .core) ch (omega arith)) ∙ off-slot (tick .core) (played .voices) (e .voices) ch i
+          sym (tick-ended version ram queues k (tick .core) ch (omega arith) refl) ∙ off-slot (tick .core) (played .voices) (e .voices) ch i
       ends false h = sym (off-none (chips.fieldsAt slots w ch .pcm .active))
 
       go : (b : Bool) → ltb ch numChannels ≡ b → SlotChipOk (chips.withVoices w (pick b .voices))

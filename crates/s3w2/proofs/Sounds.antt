@@ -10,11 +10,11 @@ use lib.ListN.{length}
 use borrow.Author.Tests.{eqb-true, lt-ltb, le-ltb}
 use Rattle.sizes.specs.Sizes.{numChannels, queueBuffer}
 use Rattle.version.specs.declared.SguVersion.{SguVersion}
+use Rattle.voices.specs.Core.{channelAt}
 use Rattle.voices.specs.declared.Core.{Core}
-use Rattle.endings.specs.Sets.{off}
 use Rattle.voices.specs.Accepted.{acceptsCore}
-use Rattle.voices.specs.Actives.{activeAt}
 use Rattle.frames.specs.Turning.{noTurn, turned, runOf, singleTick, afterTurns}
+use Rattle.frames.specs.Ending.{turnedOff}
 use Rattle.frames.specs.declared.Turned.{Turned}
 use Rattle.frames.proofs.Asks.{asked, ran}
 use Rattle.s3w2.specs.declared.Chip.{Chip}
@@ -47,7 +47,7 @@ module _ (chip : Chip) (ram : List ℕ) (queues : List ℤ) (ch : ℕ) where
   sample-none h = sym (ap (λ (t : Bool). cond t given nothing) (le-ltb ch numChannels h))
 
   pub sample-some : (core : Core) (sample : ℤ) (ended : Bool) → ch ≤ 7 → eqb (length queues) queueBuffer ≡ true
-      → record { core = core; sample = sample } ≡ afterTurns (singleTick (chip .version) ram queues ch (chip .core)) → ended ≡ off (activeAt (chip .core) ch) (activeAt core ch)
+      → record { core = core; sample = sample } ≡ afterTurns (singleTick (chip .version) ram queues ch (chip .core)) → ended ≡ turnedOff (channelAt (chip .core) ch) (channelAt core ch)
       → answered (withCore chip core) (Sample sample ended) ≡ cond (ltb ch numChannels) given nothing
   sample-some core sample ended h q e f =
       let r : _≡_ {A = Turned} (record { core = core; sample = sample }) (afterTurns (oneTick chip ram queues ch)) = e ∙ ap afterTurns (single-open (chip .version) ram queues ch (chip .core) q) in

@@ -171,7 +171,8 @@ impl Chip {
         }
         let version = self.version;
         let mut core = self.core;
-        let was = core.actives();
+        let before = core.channels;
+        let was = voices::actives(before);
         let n = num::least(left.len(), right.len());
         let mut stems = [0i16; STEMS * CHUNK];
         let mut done = 0;
@@ -191,6 +192,7 @@ impl Chip {
             );
             done += count;
         }
-        self.with_core(core, Answer::Ended(core.ended(was)))
+        let after = core.channels;
+        self.with_core(core, Answer::Ended(voices::ended(was, after)))
     }
 }

@@ -26,10 +26,13 @@ impl Chip {
         }
         let version = self.version;
         let core = self.core;
-        let was = core.is_active(ch);
         let turned = frames::tick(core, version, ram, queues, ch);
         let next = turned.core;
-        let ended = endings::turned_off(was, next.is_active(ch));
+        let c = core.channels[ch];
+        let was = c.pcm;
+        let d = next.channels[ch];
+        let is = d.pcm;
+        let ended = endings::turned_off(was.active, is.active);
         self.with_core(
             next,
             Answer::Sample {
@@ -51,9 +54,11 @@ impl Chip {
         }
         let version = self.version;
         let core = self.core;
-        let was = core.actives();
+        let before = core.channels;
+        let was = voices::actives(before);
         let turned = frames::run(core, version, ram, queues, 0, 4, stems);
         let next = turned.core;
-        self.with_core(next, Answer::Ended(next.ended(was)))
+        let after = next.channels;
+        self.with_core(next, Answer::Ended(voices::ended(was, after)))
     }
 }

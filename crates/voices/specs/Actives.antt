@@ -1,24 +1,18 @@
 -- Which of the eight voices are active, and which were and are so no more.
 use mathlib.Core.Path.{_≡_}
-use mathlib.Core.Bool.{Bool, false, cond}
+use mathlib.Core.Bool.{Bool, false}
 use mathlib.Core.List.{List}
 use Prim.Native.Nat.{ℕ, _<_}
-use lib.Dec.{ltb}
 use lib.ListN.{getD}
 use Rattle.sizes.specs.Sizes.{numChannels}
 use Rattle.endings.specs.Sets.{off, setOf}
 use Rattle.voice.specs.declared.Channel.{Channel}
-use Rattle.voices.specs.Core.{noChannel, channelAt}
-use Rattle.voices.specs.declared.Core.{Core}
+use Rattle.voices.specs.Core.{noChannel}
 
 -- flags that say of each channel whether it is active
 abbrev pub Actives : List Channel → List Bool → Type 0
 Actives channels flags = (ch : ℕ) → ch < numChannels → getD flags ch false ≡ getD channels ch noChannel .pcm .active
 
--- one above 7 is none
-unfoldable pub activeAt : Core → ℕ → Bool
-activeAt core ch = cond (ltb ch numChannels) (channelAt core ch .pcm .active) false
-
 -- the channels whose flag is set and that are not active
-unfoldable pub endedSince : List Bool → Core → ℕ
-endedSince was core = setOf numChannels (λ ch. off (getD was ch false) (channelAt core ch .pcm .active))
+unfoldable pub endedSince : List Bool → List Channel → ℕ
+endedSince was channels = setOf numChannels (λ ch. off (getD was ch false) (getD channels ch noChannel .pcm .active))

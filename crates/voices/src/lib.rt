@@ -1,6 +1,6 @@
 // Eight voices with the tables beside them.
 mod accepted;
-mod actives;
+mod activity;
 mod addresses;
 mod fresh;
 mod lists;
@@ -8,6 +8,8 @@ mod reads;
 mod stored;
 mod writes;
 
+pub use activity::actives;
+pub use activity::ended;
 use sizes::WAVETABLES_SIZE;
 use voice::Channel;
 

@@ -49,8 +49,8 @@ least-requires c κs = search needs
 
 loop-holds : tie.Need-loop-holds Inv-loop μ-loop
 loop-holds c =
-    let a = c .before .before .before .before .before .before .before .args in
-    let t = all-there _ _ _ _ (c .before .before .before .before .before .refusal-of-sound .result) (c .before .before .before .before .before .refusal-of-sound .ensures) (sym (c .before .before .before .before .is-done .ensures) ∙ not-false _ (c .before .before .before .if1 .left)) in
+    let a = c .before .before .before .before .before .before .before .before .args in
+    let t = all-there _ _ _ _ (c .before .before .before .before .before .before .refusal-of-sound .result) (c .before .before .before .before .before .before .refusal-of-sound .ensures) (sym (c .before .before .before .before .before .is-done .ensures) ∙ not-false _ (c .before .before .before .before .if1 .left)) in
     (begin wrapping (a .self .version) (a .ram .now) (a .queues .now) (c .least .result) (mix (a .self .core) (a .left .now) (a .right .now)) (c .least .ensures) (t .accepted), length-replicate 4096 (pos 0), t .lent, omega (arith, c .least .ensures), refl)
 
 sub-least : tie.Need-sub-least Inv-loop μ-loop
@@ -80,7 +80,7 @@ loop-less c = omega (arith, c .before .before .before .before .before .before .b
 loop-again : tie.Need-loop-again Inv-loop μ-loop
 loop-again c =
     let l = c .before .before .before .before .before .before .before .before .before .before .before .loop in
-    let a = c .before .before .before .before .before .before .before .before .before .before .before .before .before .before .before .before .before .before .before .args in
+    let a = c .before .before .before .before .before .before .before .before .before .before .before .before .before .before .before .before .before .before .before .before .args in
     let n = c .before .before .before .before .before .before .before .before .before .before .before .before .least .result in
     let m = c .before .before .before .before .before .before .before .before .before .least2 .result in
     let f = c .before .before .before .before .add-frames-i32 in
@@ -104,26 +104,26 @@ with-core-requires : tie.Need-with-core-requires Inv-loop μ-loop
 with-core-requires c κs = search needs
 
 same-length : tie.Need-same-length Inv-loop μ-loop
-same-length c = ap length (c .before .before .before .loop .inv .4)
+same-length c = ap length (c .before .before .before .before .loop .inv .4)
 
 same-length-2 : tie.Need-same-length-2 Inv-loop μ-loop
-same-length-2 c = c .before .before .before .loop .inv .0 .lefts
+same-length-2 c = c .before .before .before .before .loop .inv .0 .lefts
 
 same-length-3 : tie.Need-same-length-3 Inv-loop μ-loop
-same-length-3 c = c .before .before .before .loop .inv .0 .rights
+same-length-3 c = c .before .before .before .before .loop .inv .0 .rights
 
 returns-2 : tie.Need-returns-2 Inv-loop μ-loop
 unfolding mixedAnswered mixedLeft mixedRight
 returns-2 c =
-    let l = c .before .before .before .loop in
-    let a = c .before .before .before .before .before .before .before .before .before .before .before .args in
-    let n = c .before .before .before .before .least .result in
-    let o = over wrapping (a .self .version) (a .ram .now) (a .queues .now) n (mix (a .self .core) (a .left .now) (a .right .now)) (l .done) (mix (l .core) (l .left) (l .right)) (l .inv .0) (c .before .before .loop-test .left) in
+    let l = c .before .before .before .before .loop in
+    let a = c .before .before .before .before .before .before .before .before .before .before .before .before .before .args in
+    let n = c .before .before .before .before .before .least .result in
+    let o = over wrapping (a .self .version) (a .ram .now) (a .queues .now) n (mix (a .self .core) (a .left .now) (a .right .now)) (l .done) (mix (l .core) (l .left) (l .right)) (l .inv .0) (c .before .before .before .loop-test .left) in
     let count : ℕ = min (length (a .left .now)) (length (a .right .now)) in
     let next = ap (λ (m : Mix). m .core) o ∙ mixed-core (a .self .version) (a .ram .now) (a .queues .now) wrapping (mix (a .self .core) (a .left .now) (a .right .now)) count in
-    let set = c .before .ended .ensures ∙ frames-ended (a .self .version) (a .ram .now) (a .queues .now) _ (a .self .core) _ count (c .before .before .before .before .before .actives .ensures) next in (
-      goes-called (c .before .before .before .before .before .before .before .before .before .refusal-of-sound .result) _ (c .before .before .before .before .before .before .before .before .before .refusal-of-sound .ensures) _ _ _ (sym (c .before .before .before .before .before .before .before .before .is-done .ensures) ∙ not-false _ (c .before .before .before .before .before .before .before .if1 .left)) (c .with-core .ensures ∙ ap₂ (λ (m : Mix) (x : ℕ). answered (withCore (a .self) (m .core)) (Ended x)) o set),
-      (l .inv .4, (ap (λ (m : Mix). m .left) o ∙ goes-on (c .before .before .before .before .before .before .before .before .before .refusal-of-sound .result) _ (c .before .before .before .before .before .before .before .before .before .refusal-of-sound .ensures) _ _ (sym (c .before .before .before .before .before .before .before .before .is-done .ensures) ∙ not-false _ (c .before .before .before .before .before .before .before .if1 .left)), ap (λ (m : Mix). m .right) o ∙ goes-on (c .before .before .before .before .before .before .before .before .before .refusal-of-sound .result) _ (c .before .before .before .before .before .before .before .before .before .refusal-of-sound .ensures) _ _ (sym (c .before .before .before .before .before .before .before .before .is-done .ensures) ∙ not-false _ (c .before .before .before .before .before .before .before .if1 .left)))),
+    let set = c .before .ended .ensures ∙ frames-ended (a .self .version) (a .ram .now) (a .queues .now) _ (a .self .core) _ count (c .before .before .before .before .before .before .actives .ensures) next in (
+      goes-called (c .before .before .before .before .before .before .before .before .before .before .before .refusal-of-sound .result) _ (c .before .before .before .before .before .before .before .before .before .before .before .refusal-of-sound .ensures) _ _ _ (sym (c .before .before .before .before .before .before .before .before .before .before .is-done .ensures) ∙ not-false _ (c .before .before .before .before .before .before .before .before .before .if1 .left)) (c .with-core .ensures ∙ ap₂ (λ (m : Mix) (x : ℕ). answered (withCore (a .self) (m .core)) (Ended x)) o set),
+      (l .inv .4, (ap (λ (m : Mix). m .left) o ∙ goes-on (c .before .before .before .before .before .before .before .before .before .before .before .refusal-of-sound .result) _ (c .before .before .before .before .before .before .before .before .before .before .before .refusal-of-sound .ensures) _ _ (sym (c .before .before .before .before .before .before .before .before .before .before .is-done .ensures) ∙ not-false _ (c .before .before .before .before .before .before .before .before .before .if1 .left)), ap (λ (m : Mix). m .right) o ∙ goes-on (c .before .before .before .before .before .before .before .before .before .before .before .refusal-of-sound .result) _ (c .before .before .before .before .before .before .before .before .before .before .before .refusal-of-sound .ensures) _ _ (sym (c .before .before .before .before .before .before .before .before .before .before .is-done .ensures) ∙ not-false _ (c .before .before .before .before .before .before .before .before .before .if1 .left)))),
     )
 
 pub clock-mixed-into-i32-spec : {M : Type 1} → statement M

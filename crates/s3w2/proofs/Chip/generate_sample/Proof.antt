@@ -1,12 +1,10 @@
 use borrow.Author.Needs.{needs}
-use mathlib.Core.Path.{refl, sym, ap, ap₂, _∙_}
-use mathlib.Core.Bool.{Bool}
+use mathlib.Core.Path.{refl, sym, ap, _∙_}
 use lib.IntN.{ℤ}
 use mir.Syntax.{w16}
 use mir.Val.{SFits}
 use borrow.Author.Tests.{not-true, not-false}
 use Rattle.num.proofs.Integers.{back}
-use Rattle.endings.specs.Sets as sets
 use Rattle.s3w2.specs.declared.Answer.the-variants.{Sample}
 use Rattle.s3w2.specs.Answers.{answered}
 use Rattle.s3w2.specs.Chips.{withCore}
@@ -39,14 +37,20 @@ returns-2 c =
     let a = c .before .before .before .before .before .before .args in
     (goes-called (c .before .before .before .before .refusal-of-sound .result) _ (c .before .before .before .before .refusal-of-sound .ensures) _ _ _ (sym (c .before .before .before .is-done .ensures) ∙ not-false _ (c .before .before .if1 .left)) (c .answers2 .ensures ∙ sample-none (a .self) (a .ram .now) (a .queues .now) (a .ch) (c .before .if2 .taken)), refl)
 
-is-active-requires : tie.Need-is-active-requires
-is-active-requires c κs = search needs
-
 tick-requires : tie.Need-tick-requires
 tick-requires c κs = search needs
 
-is-active-requires-2 : tie.Need-is-active-requires-2
-is-active-requires-2 c κs = search needs
+mul-c : tie.Need-mul-c
+mul-c c = search needs
+
+element-copy-out-c : tie.Need-element-copy-out-c
+element-copy-out-c c = search needs
+
+mul-d : tie.Need-mul-d
+mul-d c = search needs
+
+element-copy-out-d : tie.Need-element-copy-out-d
+element-copy-out-d c = search needs
 
 turned-off-requires : tie.Need-turned-off-requires
 turned-off-requires c κs = search needs
@@ -60,15 +64,14 @@ same-length c = search needs
 returns-3 : tie.Need-returns-3
 unfolding generateSampleCalled
 returns-3 c =
-    let a = c .before .before .before .before .before .before .before .before .before .before .before .before .before .before .before .args in
-    let tick = c .before .before .before .before .before .before .tick in
-    let refusal = c .before .before .before .before .before .before .before .before .before .before .before .before .before .refusal-of-sound in
-    let done = sym (c .before .before .before .before .before .before .before .before .before .before .before .before .is-done .ensures) ∙ not-false _ (c .before .before .before .before .before .before .before .before .before .before .before .if1 .left) in
+    let a = c .before .before .before .before .before .before .before .before .before .before .before .before .before .before .before .before .before .args in
+    let tick = c .before .before .before .before .before .before .before .before .before .tick in
+    let refusal = c .before .before .before .before .before .before .before .before .before .before .before .before .before .before .before .refusal-of-sound in
+    let done = sym (c .before .before .before .before .before .before .before .before .before .before .before .before .before .before .is-done .ensures) ∙ not-false _ (c .before .before .before .before .before .before .before .before .before .before .before .before .before .if1 .left) in
     let f : SFits w16 (tick .result .sample) = record { sfits = c .before .struct-told .given .1 .0 .1 } in
     let t = all-there _ _ _ _ (refusal .result) (refusal .ensures) done in
     let off = c .before .before .turned-off in
-    let ended = off .ensures ∙ ap₂ (λ (x y : Bool). sets.off x y) (c .before .before .before .before .before .before .before .before .is-active .ensures) (c .before .before .before .is-active2 .ensures) in
-    (goes-called (refusal .result) _ (refusal .ensures) _ _ _ done (c .with-core .ensures ∙ ap (λ (x : ℤ). answered (withCore (a .self) (tick .result .core)) (Sample x (off .result))) (back w16 (tick .result .sample) f) ∙ sample-some (a .self) (a .ram .now) (a .queues .now) (a .ch) (tick .result .core) (tick .result .sample) (off .result) (c .before .before .before .before .before .before .before .before .before .before .if2 .left) (t .lent) (tick .ensures .0) ended), tick .ensures .1)
+    (goes-called (refusal .result) _ (refusal .ensures) _ _ _ done (c .with-core .ensures ∙ ap (λ (x : ℤ). answered (withCore (a .self) (tick .result .core)) (Sample x (off .result))) (back w16 (tick .result .sample) f) ∙ sample-some (a .self) (a .ram .now) (a .queues .now) (a .ch) (tick .result .core) (tick .result .sample) (off .result) (c .before .before .before .before .before .before .before .before .before .before .before .before .if2 .left) (t .lent) (tick .ensures .0) (off .ensures)), tick .ensures .1)
 
 pub generate-sample-spec : {M : Type 1} → statement M
 generate-sample-spec =
@@ -80,9 +83,11 @@ generate-sample-spec =
     returns
     answers-requires-2
     returns-2
-    is-active-requires
     tick-requires
-    is-active-requires-2
+    mul-c
+    element-copy-out-c
+    mul-d
+    element-copy-out-d
     turned-off-requires
     with-core-requires
     same-length

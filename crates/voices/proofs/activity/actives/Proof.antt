@@ -6,8 +6,8 @@ use native.Mathlib.Omega.{arith}
 use lib.ListN.{length, getD, length-set}
 use Rattle.voices.specs.Core.{noChannel}
 use Rattle.voices.proofs.Loops.{flags-more}
-use Rattle.voices.proofs.actives.actives_of.Statement.{statement}
-use Rattle.voices.proofs.actives.actives_of.Tie as tie
+use Rattle.voices.proofs.activity.actives.Statement.{statement}
+use Rattle.voices.proofs.activity.actives.Tie as tie
 
 abbrev Inv-loop : tie.InvT-loop
 Inv-loop channels flags₀ ch₀ flags ch = (ch ≤ 8) × (length flags ≡ 8) × ((n : ℕ) → n < ch → getD flags n false ≡ getD channels n noChannel .pcm .active)
@@ -44,8 +44,8 @@ returns c =
     let l = c .before .loop in
     λ n h. l .inv .2 n (omega (arith, h, l .inv .0, c .loop-test .left))
 
-pub actives-of-spec : {M : Type 1} → statement M
-actives-of-spec =
+pub actives-spec : {M : Type 1} → statement M
+actives-spec =
     tie.close
     (tie.spec
     Inv-loop
