@@ -88,8 +88,13 @@ impl Channel {
             && self.sample_control <= 7
             && self.old_phase < 1 << 35
             && [self.pcm_start_addr, self.pcm_end_addr, self.pcm_loop_addr].iter().all(|&a| a < 1 << 24)
-            && !(fifo_dac && matches!(version, SguVersion::V1 | SguVersion::V2))
+            && !(matches!(version, SguVersion::V1 | SguVersion::V2) && (fifo_dac || self.is_queued()))
             && (!self.sqv4_validated || self.is_cache_accepted(ram))
+    }
+
+    /// Whether anything was pushed, held or latched.
+    pub fn is_queued(&self) -> bool {
+        self.fifo_held != 0 || self.fifo_hold != 0 || self.fifo_sub != 0 || self.fifo_latch != 0 || !self.fifo.is_empty()
     }
 
     fn is_cache_accepted(&self, ram: Option<usize>) -> bool {

@@ -2,7 +2,8 @@
 // lists the lines.
 //
 // With the argument --stale it says on standard error after which lines a voice's cache holds anything else than a new
-// `initialize_sqv4` and decoding would give it.
+// `initialize_sqv4` and decoding would give it; with --queued after which lines a voice of a V1 or V2 chip has anything in its
+// queue, and of how many lines it looked at such a chip.
 mod sgu {
     pub mod s3w2;
     pub mod sqv4;
@@ -213,7 +214,10 @@ impl Player {
 }
 
 fn main() {
-    let looks = std::env::args().nth(1).as_deref() == Some("--stale");
+    let word = std::env::args().nth(1);
+    let looks = word.as_deref() == Some("--stale");
+    let counts = word.as_deref() == Some("--queued");
+    let mut looked = 0;
     let mut text = String::new();
     std::io::stdin().read_to_string(&mut text).unwrap();
     let mut out = BufWriter::new(std::io::stdout().lock());
@@ -232,5 +236,14 @@ fn main() {
                 eprintln!("stale: channel {ch} after line {}, {line}", number + 1);
             }
         }
+        if counts && matches!(player.chip.version, SguVersion::V1 | SguVersion::V2) {
+            looked += 1;
+            for ch in (0..8).filter(|&ch| player.chip.channels[ch].is_queued()) {
+                eprintln!("queued: channel {ch} after line {}, {line}", number + 1);
+            }
+        }
+    }
+    if counts {
+        eprintln!("looked at a chip of V1 or V2 after {looked} lines");
     }
 }

@@ -15,6 +15,7 @@ OTHER_LENGTHS = [512, 1024, 131072, 524288, 16777216]
 FREQUENCIES = [0, 1, 2, 3, 100, 440, 1000, 6000, 11999, 12000, 12001, 24000, 47999, 48000, 48001, 60000, 65534, 65535]
 PHASES = [0, 1, (1 << 29) - 1, 1 << 29, (1 << 37) - 1, 1 << 37, (1 << 63), (1 << 64) - 1, (1 << 64) - (1 << 29)]
 BYTES = [0, 1, 2, 3, 4, 5, 6, 7, 8, 15, 16, 31, 32, 127, 128, 129, 254, 255]
+QUEUED = [20, 21, 22, 23, 25]  # of a state's fields held, hold, sub-tick, latch and count: zero on a chip without a FIFO
 
 
 class List:
@@ -27,7 +28,7 @@ class List:
         self.lines = []
         self.version = 4
         self.streams = []
-        self.odd = False
+        self.odd = set()  # voices in states that are not accepted
 
     def put(self, code, *fields):
         self.lines.append(",".join([code, *map(str, fields)]))
@@ -200,15 +201,33 @@ class List:
             rng.choice([0, 0, 1, 3, 2047, 2048, rng.randrange(2049)]), rng.randrange(1, 1 << 31),
             rng.choice([0, rng.randrange(1, 1 << 31)]),
         ]
+        if self.version < 2:
+            for k in QUEUED:
+                fields[k] = 0
         return fields
+
+    def queue_up(self, fields):
+        """Something in the queue of a chip without a FIFO: one of the five or all of them, now and then with a fault before them."""
+        rng = self.rng
+        nonzero = {20: [1, -1, 32767, -32768], 21: [1, 65535], 22: [1, 2, 3], 23: [1, 255, rng.randrange(1, 256)], 25: [1, 2047, 2048]}
+        for k in QUEUED if rng.random() < 0.15 else [rng.choice(QUEUED)]:
+            fields[k] = rng.choice(nonzero[k])
+        if rng.random() < 0.3:
+            k, x = rng.choice([(5, 8), (13, 8), (19, 65281)])
+            fields[k] = x
 
     def set_state(self, ch):
         fields = self.state(ch)
+        self.odd.discard(ch)
         if self.rng.random() < 0.08:
             k, x = self.rng.choice([(5, 8), (6, 2), (9, 1 << 24), (10, 1 << 24), (11, 1 << 24), (13, 8), (16, 1 << 35),
                                     (19, 65281), (21, 65536), (22, 4), (24, 2048), (25, 2049), (1, 5)])
             fields[k] = x
-            self.odd = True
+            if (k, self.version) not in [(1, 2), (1, 3), (1, 4)]:
+                self.odd.add(ch)
+        elif self.version < 2 and self.rng.random() < 0.25:
+            self.queue_up(fields)
+            self.odd.add(ch)
         self.put("E", ch, *fields)
         self.put("F", ch, 0, *[0] * 12)
 
@@ -224,6 +243,7 @@ class List:
         start = rng.randrange(self.length - length + 1)
         end = start + length
         fields = self.state(ch, 4, start, end)
+        self.odd.discard(ch)
         if rng.random() < 0.7:
             fields[15] = rng.randrange(max(1, samples) << 29)
         half = lambda parity: rng.choice([0] + [f + 1 for f in range(parity, frames, 2)] * 2)
@@ -231,7 +251,7 @@ class List:
                  rng.randrange(frames + 1), rng.choice([0, 32767, -32768, rng.randrange(-32768, 32768)]),
                  rng.randrange(89), rng.randrange(1, 1 << 31)]
         if rng.random() < 0.08:
-            self.odd = True
+            self.odd.add(ch)
             k = rng.choice([1, 2, 3, 4, 5, 6, 7, 8, 9, 11, 13, 14])
             if k == 13:
                 fields[1] = rng.choice([0, 1, 2, 3])
@@ -334,8 +354,10 @@ class List:
         rng = self.rng
         k = rng.randrange(12)
         if k < 2:
-            self.version = rng.randrange(5)
-            self.put("V", self.version)
+            version = rng.randrange(5)
+            self.put("V", version)
+            if not self.odd:
+                self.version = version
         elif k == 2:
             self.put("Z")
             self.streams = []
@@ -364,6 +386,7 @@ class List:
     def new(self):
         self.version = self.rng.choice([0, 1, 2, 3, 4, 4])
         self.streams = []
+        self.odd = set()
         self.put("N", self.version, self.length)
 
     def mend(self):
@@ -371,7 +394,7 @@ class List:
         for ch in range(8):
             self.put("E", ch, *self.state(ch, 0, 0, 0))
             self.put("F", ch, 0, *[0] * 12)
-        self.odd = False
+        self.odd = set()
 
     def made(self):
         rng = self.rng

@@ -27,6 +27,7 @@ sizeIn (HeadRead.faulty field) = 0
 fieldsIn : VoiceRead → PlainVoice
 fieldsIn (voice ch v) = v
 fieldsIn (VoiceRead.faulty field) = freshVoice
+fieldsIn VoiceRead.queued = freshVoice
 
 first : List (List ℕ) → List ℕ
 first [] = []

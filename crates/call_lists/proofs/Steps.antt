@@ -22,8 +22,8 @@ use Rattle.plain_chip.proofs.Calls.{chipSeen}
 use Rattle.plain_chip.proofs.Calls as calls
 use Rattle.call_lists.specs.Runs.{Outcome}
 use Rattle.call_lists.specs.Mixing.{Mix, clearedTo}
-use Rattle.call_lists.specs.Texts.{Texts, TextsOk, Told, VoiceRead, voice, HeadRead, head, sized}
-use Rattle.call_lists.specs.Calls.{Call, reset, setVersion, resetChannel, writeRegister, readRegister, peekRegister, writeChannelControl, readChannelControl, writeChannelPcmReg, readChannelPcmReg, writeChannelWavetable, readChannelWavetable, wavetableLength, interpolates, writePcmRam, readPcmRam, generateSample, clock, clockMixed, clockMixedInto, clockMixedIntoI32, writeHead, readHead, writeVoice, readVoice, Reply, done, byte, count, flag, sample, ended, CallAnswer, replies, plays, lineAnswer, gives, endedAt, endedIn, mixes, mixedTo, headTold, voiceTold, run}
+use Rattle.call_lists.specs.Texts.{Texts, TextsOk, Told, VoiceRead, voice, queued, HeadRead, head, sized}
+use Rattle.call_lists.specs.Calls.{Call, reset, setVersion, resetChannel, writeRegister, readRegister, peekRegister, writeChannelControl, readChannelControl, writeChannelPcmReg, readChannelPcmReg, writeChannelWavetable, readChannelWavetable, wavetableLength, interpolates, writePcmRam, readPcmRam, generateSample, clock, clockMixed, clockMixedInto, clockMixedIntoI32, writeHead, readHead, writeVoice, readVoice, readStoredVoice, Reply, done, byte, count, flag, sample, ended, CallAnswer, replies, plays, lineAnswer, gives, endedAt, endedIn, mixes, mixedTo, headTold, voiceTold, run}
 use Rattle.call_lists.specs.Seen.{FitCall}
 use Rattle.call_lists.proofs.Mixing.{length-mixed, keeps-mixed, same-mixed}
 
@@ -85,6 +85,7 @@ module _ {A B : Type 0} {g : A → B} {P : SguVersion → List ℕ → A → Typ
     voices : (r : VoiceRead) → Told (c .version) r → Same (voiceTold a t c r) (voiceTold b t d r)
     voices (voice ch v) f = record { next = calls.same-load sim c ok ch v (f .1); answer = refl; ok = calls.ok-load sim c ok ch v (f .1) }
     voices (VoiceRead.faulty field) f = still _ _ refl
+    voices queued f = still _ _ refl
 
     -- one lemma a call
     pub step : (x : Call) → FitCall x → Same (run a t c x) (run b t d x)
@@ -133,3 +134,4 @@ module _ {A B : Type 0} {g : A → B} {P : SguVersion → List ℕ → A → Typ
     step (readHead text) f = heads (t .readHead text)
     step (writeVoice ch out) f = still _ _ (ap (λ (v : PlainVoice). lineAnswer (t .voiceText ch v) out) (calls.same-voice sim c ch))
     step (readVoice text) f = voices (t .readVoice (c .version) text) (texts .told (c .version) text)
+    step (readStoredVoice text) f = voices (t .readStored (c .version) text) (texts .stored-told (c .version) text)

@@ -15,7 +15,7 @@ use Rattle.plain_chip.specs.Chips.{ModelChip, withVoices, fieldsAt, loadVoice}
 use Rattle.plain_chip.specs.Chips as chips
 use Rattle.call_lists.specs.Runs.{Outcome}
 use Rattle.call_lists.specs.Mixing.{Mix, mixed, clearedTo}
-use Rattle.call_lists.specs.Texts.{Texts, VoiceRead, voice, HeadRead, head, sized}
+use Rattle.call_lists.specs.Texts.{Texts, VoiceRead, voice, queued, HeadRead, head, sized}
 
 -- stems, sides and texts come with the call
 pub data Call : Type 0 where
@@ -44,6 +44,7 @@ pub data Call : Type 0 where
   readHead : List ℕ → Call
   writeVoice : ℕ → List ℕ → Call
   readVoice : List ℕ → Call
+  readStoredVoice : List ℕ → Call
 
 -- a refusal has document 01's number, and then its values
 pub data Reply : Type 0 where
@@ -102,6 +103,7 @@ module _ {A : Type 0} (m : Model A) (t : Texts) where
   abbrev pub voiceTold : ModelChip A → VoiceRead → Outcome (ModelChip A) CallAnswer
   voiceTold c (voice ch fields) = gives (loadVoice m ch fields c) (replies done)
   voiceTold c (VoiceRead.faulty field) = gives c (replies (refused (16 ∷ field ∷ [])))
+  voiceTold c queued = gives c (replies (refused (23 ∷ [])))
 
   abbrev pub clocks : ℕ → List ℤ → ModelChip A → Outcome (ModelChip A) CallAnswer
   clocks n stems c =
@@ -140,3 +142,4 @@ module _ {A : Type 0} (m : Model A) (t : Texts) where
   run c (readHead text) = headTold c (t .readHead text)
   run c (writeVoice ch out) = gives c (lineAnswer (t .voiceText ch (fieldsAt m c ch)) out)
   run c (readVoice text) = voiceTold c (t .readVoice (c .version) text)
+  run c (readStoredVoice text) = voiceTold c (t .readStored (c .version) text)

@@ -8,7 +8,7 @@ use Rattle.plain_chip.specs.Models.{Model}
 use Rattle.plain_chip.specs.Chips.{ModelChip}
 use Rattle.call_lists.specs.Runs.{after}
 use Rattle.call_lists.specs.Texts.{Texts}
-use Rattle.call_lists.specs.Calls.{Call, reset, setVersion, resetChannel, writeRegister, readRegister, peekRegister, writeChannelControl, readChannelControl, writeChannelPcmReg, readChannelPcmReg, writeChannelWavetable, readChannelWavetable, wavetableLength, interpolates, writePcmRam, readPcmRam, generateSample, clock, clockMixed, clockMixedInto, clockMixedIntoI32, writeHead, readHead, writeVoice, readVoice}
+use Rattle.call_lists.specs.Calls.{Call, reset, setVersion, resetChannel, writeRegister, readRegister, peekRegister, writeChannelControl, readChannelControl, writeChannelPcmReg, readChannelPcmReg, writeChannelWavetable, readChannelWavetable, wavetableLength, interpolates, writePcmRam, readPcmRam, generateSample, clock, clockMixed, clockMixedInto, clockMixedIntoI32, writeHead, readHead, writeVoice, readVoice, readStoredVoice}
 
 -- the session text, head and voice lines, and the RAM
 pub record Seen : Type 0 where
@@ -58,3 +58,4 @@ FitCall (writeHead out) = Unit {0}
 FitCall (readHead text) = Unit {0}
 FitCall (writeVoice ch out) = Unit {0}
 FitCall (readVoice text) = Unit {0}
+FitCall (readStoredVoice text) = Unit {0}

@@ -9,10 +9,11 @@ use Rattle.version.specs.declared.SguVersion.{SguVersion}
 use Rattle.plain_chip.specs.Voices.{PlainVoice}
 use Rattle.plain_chip.specs.Good.{FitVoice}
 
--- the voice that a line names and its fields, or the first field at fault
+-- the voice that a line names and its fields, or the first field at fault, or that something is in the queue of a chip without a FIFO
 pub data VoiceRead : Type 0 where
   voice : ℕ → PlainVoice → VoiceRead
   faulty : ℕ → VoiceRead
+  queued : VoiceRead
 
 -- the version that a head names, and the length of the RAM if it tells it
 pub data HeadRead : Type 0 where
@@ -27,14 +28,18 @@ pub record Texts : Type 0 where
   -- the line of voice ch; empty above 7
   pub voiceText : ℕ → PlainVoice → List ℕ
   pub readVoice : SguVersion → List ℕ → VoiceRead
+  -- of a stored line a chip without a FIFO drops what is in the queue
+  pub readStored : SguVersion → List ℕ → VoiceRead
 
 -- what is read is one of the eight voices, its fields in their ranges
 abbrev pub Told : SguVersion → VoiceRead → Type 0
 Told version (voice ch v) = (ch < numChannels) × FitVoice version v
 Told version (faulty field) = Unit {0}
+Told version queued = Unit {0}
 
 -- what is written is read back
 pub record TextsOk (t : Texts) : Type 0 where
   pub head-back : (version : SguVersion) (size : ℕ) → isRamLength size ≡ true → t .readHead (t .headText version size) ≡ sized version size
   pub told : (version : SguVersion) (text : List ℕ) → Told version (t .readVoice version text)
+  pub stored-told : (version : SguVersion) (text : List ℕ) → Told version (t .readStored version text)
   pub voice-back : (version : SguVersion) (ch : ℕ) (v : PlainVoice) → ch < numChannels → FitVoice version v → t .readVoice version (t .voiceText ch v) ≡ voice ch v

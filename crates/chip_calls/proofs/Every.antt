@@ -1,6 +1,6 @@
 -- Each call of the list on a good world: what the code does is what the list's call does. Assumes nothing.
 use Rattle.slots.specs.Models.{slots}
-use Rattle.call_lists.specs.Calls.{Call, reset, setVersion, resetChannel, writeRegister, readRegister, peekRegister, writeChannelControl, readChannelControl, writeChannelPcmReg, readChannelPcmReg, writeChannelWavetable, readChannelWavetable, wavetableLength, interpolates, writePcmRam, readPcmRam, generateSample, clock, clockMixed, clockMixedInto, clockMixedIntoI32, writeHead, readHead, writeVoice, readVoice, run}
+use Rattle.call_lists.specs.Calls.{Call, reset, setVersion, resetChannel, writeRegister, readRegister, peekRegister, writeChannelControl, readChannelControl, writeChannelPcmReg, readChannelPcmReg, writeChannelWavetable, readChannelWavetable, wavetableLength, interpolates, writePcmRam, readPcmRam, generateSample, clock, clockMixed, clockMixedInto, clockMixedIntoI32, writeHead, readHead, writeVoice, readVoice, readStoredVoice, run}
 use Rattle.call_lists.specs.Seen.{FitCall}
 use Rattle.session_texts.specs.Session.{session}
 use Rattle.chip_calls.specs.Ties.{Machine, slotChip, GoodMachine, Tied}
@@ -37,3 +37,4 @@ module _ (m : Machine) (held : GoodMachine (m .chip) (m .ram) (m .queues)) where
   tied (readHead text) f = lines.tied-read-head (m .chip) (m .ram) (m .queues) held text
   tied (writeVoice ch out) f = lines.tied-write-voice (m .chip) (m .ram) (m .queues) held ch out
   tied (readVoice text) f = lines.tied-read-voice (m .chip) (m .ram) (m .queues) held text
+  tied (readStoredVoice text) f = lines.tied-read-stored-voice (m .chip) (m .ram) (m .queues) held text

@@ -12,12 +12,10 @@ use lib.Seq.{sets}
 use borrow.Author.Tests.{lt-leb}
 use Rattle.line_fields.specs.Text.{writtenOf, putOf, lineText}
 use Rattle.line_fields.specs.declared.Written.the-variants as lines
-use Rattle.line_fields.specs.Reading.{ReadLine, line, readLine}
-use Rattle.line_fields.specs.Reading as reading
-use Rattle.version.specs.Versions.{has3ws8pna}
 use Rattle.version.specs.declared.SguVersion.{SguVersion}
-use Rattle.session_lines.specs.Numbers.{at, fieldNumbers}
-use Rattle.session_lines.specs.Lines.{voiceText, ReadVoice, voice, voiceOf, voiceFrom, readVoice, channelAfter, tableAfter}
+use Rattle.session_lines.specs.Numbers.{fieldNumbers}
+use Rattle.session_lines.specs.Lines.{NumberedVoice, voiceText, ReadVoice, voice, malformed, queued, readAs, channelAfter, tableAfter}
+use Rattle.session_lines.proofs.Taken.{read-told}
 use Rattle.session_lines.specs.Head.{headText, readHead}
 use Rattle.session_lines.specs.declared.HeadLine.{HeadLine}
 use Rattle.session_lines.specs.declared.HeadLine.the-variants as heads
@@ -30,10 +28,10 @@ use Rattle.session.specs.declared.LineAnswer.the-variants.{RamLength, NotAccept
 use Rattle.session.specs.declared.LineCalled.{LineCalled}
 use Rattle.session.specs.Answers as answers
 use Rattle.session.specs.Heads.{writeHeadAnswer, writeHeadText, versionCalled, headCalled, readHeadCalled}
-use Rattle.session.specs.Voices.{lineOfVoice, writeVoiceAnswer, writeVoiceText, loadedCore, loadedQueues, voiceCalled, voiceQueues, readVoiceCalled, readVoiceQueues}
+use Rattle.session.specs.Voices.{lineOfVoice, writeVoiceAnswer, writeVoiceText, loadedCore, loadedQueues, voiceCalled, voiceQueues, voiceReadCalled, voiceReadQueues, readVoiceCalled, readVoiceQueues, readStoredVoiceCalled, readStoredVoiceQueues}
 use Rattle.session.proofs.Lines.{goes-on, goes-over}
 use Rattle.session.proofs.Loaded.{loaded-changed, queue-own, queue-others, length-loaded}
-use Rattle.slots.specs.Slots.{Slot, plainOf, slotLoaded}
+use Rattle.slots.specs.Slots.{Slot, plainOf, channelWith, slotLoaded}
 use Rattle.slots.specs.Models.{slots, SlotChip}
 use Rattle.plain_chip.specs.Good.{FitVoice}
 use Rattle.slots.proofs.Slots.{slots-plain}
@@ -48,7 +46,7 @@ use Rattle.call_lists.specs.Calls as list
 use Rattle.call_lists.specs.Calls.{Call, run}
 use Rattle.session_texts.specs.Session.{session, plainVoiceOf, plainText, headRead, voiceRead}
 use Rattle.session_texts.proofs.Written.{text-plain}
-use Rattle.session_texts.proofs.Read.{loaded-told, session-is-ok}
+use Rattle.session_texts.proofs.Read.{channel-told, loaded-told, session-is-ok}
 use Rattle.chip_calls.specs.Ties.{slotChip, GoodMachine, wroteBy, readBy, Tied}
 use Rattle.chip_calls.proofs.Accepting.{accepts, state-accepted}
 use Rattle.chip_calls.proofs.Calls.{made, tied-version}
@@ -132,32 +130,43 @@ module _ (chip : Chip) (ram : List ℕ) (queues : List ℤ) (held : GoodMachine 
       read-as _ _ queues queues _ (with-ram _ (answers.lineAnswered chip NotAccepted) (answers.lineAnswered chip RamLength)) refl (head-told (readHead text))
 
   -- the voice that a line names
-  module _ (f : ℕ → ℕ) (here : voiceOf f .number < 8) (fit : FitVoice version (plainVoiceOf (voiceOf f))) where
+  module _ (v : NumberedVoice) (here : v .number < 8) (fit : FitVoice version (plainVoiceOf v)) (is : v .channel ≡ channelWith (plainVoiceOf v)) where
     abbrev ch : ℕ
-    ch = voiceOf f .number
+    ch = v .number
 
     abbrev s : Slot
     s = slotAt k queues ch
 
     abbrev r : ReadVoice
-    r = voice (voiceOf f)
+    r = voice v
 
-    slots-loaded : slotsOf (loadedCore k ch r) (loadedQueues queues ch r) ≡ chips.loadVoice slots ch (plainVoiceOf (voiceOf f)) w .voices
+    slots-loaded : slotsOf (loadedCore k ch r) (loadedQueues queues ch r) ≡ chips.loadVoice slots ch (plainVoiceOf v) w .voices
     slots-loaded =
-        one-changed k queues (loadedQueues queues ch r) (slotLoaded (plainVoiceOf (voiceOf f))) here (loaded-changed r ch here k (held .sized)) (queue-others r ch here queues (held .long))
-        (ap (slotWith (own.voice (channelAfter r (s .channel)) (s .fragments) (tableAfter r (s .wavetable)))) (queue-own r ch here queues (held .long)) ∙ loaded-told f s)
+        one-changed k queues (loadedQueues queues ch r) (slotLoaded (plainVoiceOf v)) here (loaded-changed r ch here k (held .sized)) (queue-others r ch here queues (held .long))
+        (ap (slotWith (own.voice (channelAfter r (s .channel)) (s .fragments) (tableAfter r (s .wavetable)))) (queue-own r ch here queues (held .long)) ∙ loaded-told v s is)
 
     voice-loaded : Tied (readBy (voiceCalled chip r) ram (voiceQueues queues r)) (list.voiceTold slots session w (voiceRead r))
     voice-loaded =
         made _ _ (λ i. record { version = version; ram = ram; voices = slots-loaded i }) refl (held .allowed) (loaded-changed r ch here k (held .sized) .sized) (length-loaded r ch here queues ∙ held .long)
-        (oks.ok-load slots-plain w (held .good) ch (plainVoiceOf (voiceOf f)) fit)
+        (oks.ok-load slots-plain w (held .good) ch (plainVoiceOf v) fit)
 
-  voice-told : (l : ReadLine) → Told version (voiceRead (voiceFrom l)) → Tied (readBy (voiceCalled chip (voiceFrom l)) ram (voiceQueues queues (voiceFrom l))) (list.voiceTold slots session w (voiceRead (voiceFrom l)))
-  voice-told (line ns) t = voice-loaded (at ns) (t .0) (t .1)
-  voice-told (reading.malformed ns field) t = record { next = refl; answer = refl; held = held }
+  voice-told : (r : ReadVoice) → Told version (voiceRead r) → ((v : NumberedVoice) → r ≡ voice v → v .channel ≡ channelWith (plainVoiceOf v))
+      → Tied (readBy (voiceCalled chip r) ram (voiceQueues queues r)) (list.voiceTold slots session w (voiceRead r))
+  voice-told (voice v) t is = voice-loaded v (t .0) (t .1) (is v refl)
+  voice-told (malformed field) t is = record { next = refl; answer = refl; held = held }
+  voice-told queued t is = record { next = refl; answer = refl; held = held }
+
+  -- as a stored line or as any
+  tied-read : (stored : Bool) (text : List ℕ) → Told version (voiceRead (readAs stored version text)) → Tied (readBy (voiceReadCalled stored chip queues text) ram (voiceReadQueues stored chip queues text)) (list.voiceTold slots session w (voiceRead (readAs stored version text)))
+  unfolding voiceReadCalled voiceReadQueues
+  tied-read stored text t =
+      read-as _ _ _ _ _ (with-queues _ (answers.lineAnswered chip NotAccepted) (answers.lineAnswered chip QueueBuffer)) (with-queues _ queues queues)
+      (voice-told (readAs stored version text) t (λ v e. channel-told version v (read-told stored version text v e)))
 
   pub tied-read-voice : (text : List ℕ) → Tied (readBy (readVoiceCalled chip queues text) ram (readVoiceQueues chip queues text)) (ran (list.readVoice text))
-  unfolding readVoiceCalled readVoiceQueues readVoice run
-  tied-read-voice text =
-      read-as _ _ _ _ _ (with-queues _ (answers.lineAnswered chip NotAccepted) (answers.lineAnswered chip QueueBuffer)) (with-queues _ queues queues)
-      (voice-told (readLine (has3ws8pna version) text) (session-is-ok .told version text))
+  unfolding run
+  tied-read-voice text = tied-read false text (session-is-ok .told version text)
+
+  pub tied-read-stored-voice : (text : List ℕ) → Tied (readBy (readStoredVoiceCalled chip queues text) ram (readStoredVoiceQueues chip queues text)) (ran (list.readStoredVoice text))
+  unfolding run
+  tied-read-stored-voice text = tied-read true text (session-is-ok .stored-told version text)

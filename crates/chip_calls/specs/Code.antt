@@ -12,12 +12,12 @@ use Rattle.s3w2.specs.Ram.{writePcmRamCalled, writePcmRamRam, readPcmRamAnswer}
 use Rattle.s3w2.specs.Sound.{generateSampleCalled, clockCalled, clockStems}
 use Rattle.s3w2.specs.Mixing.{mixedCalled, mixedI32Called, mixedLeft, mixedRight, clockMixedCalled, clockMixedLeft, clockMixedRight}
 use Rattle.session.specs.Heads.{writeHeadAnswer, writeHeadText, readHeadCalled}
-use Rattle.session.specs.Voices.{writeVoiceAnswer, writeVoiceText, readVoiceCalled, readVoiceQueues}
+use Rattle.session.specs.Voices.{writeVoiceAnswer, writeVoiceText, readVoiceCalled, readVoiceQueues, readStoredVoiceCalled, readStoredVoiceQueues}
 use Rattle.s3w2.specs.declared.Called.{Called}
 use Rattle.session.specs.declared.LineAnswer.{LineAnswer}
 use Rattle.session.specs.declared.LineCalled.{LineCalled}
 use Rattle.call_lists.specs.Runs.{Outcome}
-use Rattle.call_lists.specs.Calls.{CallAnswer, Call, reset, setVersion, resetChannel, writeRegister, readRegister, peekRegister, writeChannelControl, readChannelControl, writeChannelPcmReg, readChannelPcmReg, writeChannelWavetable, readChannelWavetable, wavetableLength, interpolates, writePcmRam, readPcmRam, generateSample, clock, clockMixed, clockMixedInto, clockMixedIntoI32, writeHead, readHead, writeVoice, readVoice}
+use Rattle.call_lists.specs.Calls.{CallAnswer, Call, reset, setVersion, resetChannel, writeRegister, readRegister, peekRegister, writeChannelControl, readChannelControl, writeChannelPcmReg, readChannelPcmReg, writeChannelWavetable, readChannelWavetable, wavetableLength, interpolates, writePcmRam, readPcmRam, generateSample, clock, clockMixed, clockMixedInto, clockMixedIntoI32, writeHead, readHead, writeVoice, readVoice, readStoredVoice}
 use Rattle.chip_calls.specs.Ties.{Machine, by, sounded, onlyTells, wroteBy, readBy}
 use Rattle.chip_calls.specs.Values.{sampleCallValues, clockCallValues, mixedCallValues, clockMixedCallValues}
 
@@ -60,6 +60,7 @@ code m (writeHead out) =
 code m (readHead text) = readBy (readHeadCalled (m .chip) (length (m .ram)) text) (m .ram) (m .queues)
 code m (writeVoice ch out) = wroteBy (m .chip) (m .ram) (m .queues) (writeVoiceAnswer (m .chip) (m .queues) ch out) (writeVoiceText (m .chip) (m .queues) ch out)
 code m (readVoice text) = readBy (readVoiceCalled (m .chip) (m .queues) text) (m .ram) (readVoiceQueues (m .chip) (m .queues) text)
+code m (readStoredVoice text) = readBy (readStoredVoiceCalled (m .chip) (m .queues) text) (m .ram) (readStoredVoiceQueues (m .chip) (m .queues) text)
 
 -- ---- what a function left is what `code` says of its call: the chip and its answer, the RAM, the queue buffer, the lent stems or sides. The values
 -- ahead of the volume, which no function gives, are those that `code` reads off the definitions.

@@ -93,6 +93,7 @@ lineReply lines.NotAccepted = refused (numbersOf lines.NotAccepted)
 lineReply lines.TextBuffer = refused (numbersOf lines.TextBuffer)
 lineReply (lines.Malformed field) = refused (numbersOf (lines.Malformed field))
 lineReply lines.OtherLength = refused (numbersOf lines.OtherLength)
+lineReply lines.Queued = refused (numbersOf lines.Queued)
 
 -- one written to a lent text
 abbrev pub wroteBy : Chip → List ℕ → List ℤ → LineAnswer → List ℕ → Outcome Machine list.CallAnswer

@@ -26,6 +26,7 @@ pub use state::write_channel_wavetable;
 pub use state::write_pcm_ram;
 pub use state::write_register;
 pub use text::read_head;
+pub use text::read_stored_voice;
 pub use text::read_voice;
 pub use text::write_head;
 pub use text::write_voice;

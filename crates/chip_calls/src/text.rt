@@ -37,3 +37,11 @@ pub fn read_voice(chip: Chip, ram: &[u8], queues: &mut [i16], text: &[u8]) -> Li
 {
     session::read_voice(chip, queues, text)
 }
+
+// As `session::read_stored_voice`.
+pub fn read_stored_voice(chip: Chip, ram: &[u8], queues: &mut [i16], text: &[u8]) -> LineCalled
+    ensures code { λ r. ⌜ AsRead (machine chip (now (ram .entry)) (now (queues .entry))) (list.readStoredVoice (now (text .entry))) r
+        (now (ram .entry)) (now (queues .exit)) ⌝ }
+{
+    session::read_stored_voice(chip, queues, text)
+}

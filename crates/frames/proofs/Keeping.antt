@@ -16,9 +16,9 @@ use Rattle.tone.proofs.Ranges.{last-fits}
 use Rattle.tone.proofs.Sides.{ticks-wider}
 use Rattle.tone.proofs.Streams as streams
 use Rattle.version.specs.declared.SguVersion.{SguVersion}
-use Rattle.registers.specs.Queue.{AcceptedFifo, FitFifo}
+use Rattle.registers.specs.Queue.{RangedFifo, FitFifo}
 use Rattle.registers.specs.PlainQueue.{FitEntries}
-use Rattle.registers.proofs.Accepted.{tick-accepted}
+use Rattle.registers.proofs.Accepted.{with-fifo, tick-ranged}
 use Rattle.registers.specs.Waveforms.{isSqv4}
 use Rattle.stream.specs.Accepted.{acceptsCache}
 use Rattle.stream.specs.Cache.{Stock, stock}
@@ -40,10 +40,12 @@ use Rattle.ticks.specs.declared.Target.{Target}
 use Rattle.ticks.proofs.Ranges.{accepted-oscillator, oscillator-accepted}
 use Rattle.ticks.proofs.Sums.{room-none, heard-room, begins, sound-steady, queue-steady}
 use Rattle.voice.specs.Accepted.{acceptsStream, AcceptedChannel}
-use Rattle.voice.specs.Sounding.{playOf, silentSound, afterSound, queueSoundOf, afterQueue, servedOf, streamSoundOf, afterStream}
+use Rattle.voice.specs.Sounding.{kindOf, playOf, silentSound, afterSound, queueSoundOf, afterQueue, servedOf, streamSoundOf, afterStream}
 use Rattle.voice.specs.Streaming.{Lent, lent, streamTick, streamTicks, streamTicksAt}
 use Rattle.voice.specs.declared.Channel.{Channel}
+use Rattle.voice.specs.declared.Kind.the-variants as kinds
 use Rattle.voice.specs.declared.StreamSound.{StreamSound}
+use Rattle.voice.proofs.Keeps.{fifo-there}
 use Rattle.voice.proofs.Tests.{first-arm}
 use Rattle.stream.proofs.Accepts.{accepts-free}
 use Rattle.frames.specs.Kept.{EachByte, FitSounding, Kept}
@@ -55,10 +57,10 @@ silent-room n = record { lefts = ticks-wider 0 n _ (omega arith) (room-none .lef
 pub plain-room : (n : ℕ) (v : Sides) → Room (0 + n) v → Room n v
 plain-room n v r = subst (λ (k : ℕ). Room k v) (N.zero-add n) r
 
-queues-accepted : (frequency panpot : ℕ) (q : List ℤ) → frequency < 2 ^ 16 → (n : ℕ) (v : QueueSound) → AcceptedFifo (v .fifo) → AcceptedFifo (queueTicks n frequency panpot q v .fifo)
+queues-ranged : (frequency panpot : ℕ) (q : List ℤ) → frequency < 2 ^ 16 → (n : ℕ) (v : QueueSound) → RangedFifo (v .fifo) → RangedFifo (queueTicks n frequency panpot q v .fifo)
 unfolding queueTicks queueTick again
-queues-accepted frequency panpot q h zero v a = a
-queues-accepted frequency panpot q h (suc n) v a = tick-accepted (queueTicks n frequency panpot q v .fifo) q frequency h (queues-accepted frequency panpot q h n v a)
+queues-ranged frequency panpot q h zero v a = a
+queues-ranged frequency panpot q h (suc n) v a = tick-ranged (queueTicks n frequency panpot q v .fifo) q frequency h (queues-ranged frequency panpot q h n v a)
 
 module _ (c : Channel) (version : SguVersion) (ram : List ℕ) (n : ℕ) (small : n ≤ 2 ^ 18) (a : AcceptedChannel c version (length ram)) (f : FitSounding c) where
   -- ---- an oscillator
@@ -76,12 +78,12 @@ module _ (c : Channel) (version : SguVersion) (ram : List ℕ) (n : ℕ) (small 
       }
 
 -- ---- a queue
-module _ (c : Channel) (version : SguVersion) (ram n : ℕ) (small : n ≤ 2 ^ 18) (a : AcceptedChannel c version ram) (f : FitSounding c) where
+module _ (c : Channel) (version : SguVersion) (ram n : ℕ) (small : n ≤ 2 ^ 18) (k : kindOf c ≡ kinds.FifoDac) (a : AcceptedChannel c version ram) (f : FitSounding c) where
   pub queue-kept : (q : List ℤ) (r : QueueSound) → r ≡ queueTicks n (c .registers .frequency) (c .registers .panpot) q (queueSoundOf c) → FitFifo (r .fifo) → Room n (r .sides)
       → Kept version ram n (afterQueue c r) (r .sides)
   unfolding acceptsStream acceptsOscillator
   queue-kept q r e fits room = record {
-    accepted = record { registers = a .registers; pcm = a .pcm; oscillator = a .oscillator; fifo = subst (λ (v : QueueSound). AcceptedFifo (v .fifo)) (sym e) (queues-accepted (c .registers .frequency) (c .registers .panpot) q (f .frequency) n (queueSoundOf c) (a .fifo)); stream = a .stream };
+    accepted = record { registers = a .registers; pcm = a .pcm; oscillator = a .oscillator; fifo = with-fifo version _ (fifo-there c version ram a k) (subst (λ (v : QueueSound). RangedFifo (v .fifo)) (sym e) (queues-ranged (c .registers .frequency) (c .registers .panpot) q (f .frequency) n (queueSoundOf c) (a .fifo .ranges))); stream = a .stream };
     fits = record { oscillator = record { phase = f .oscillator .phase; lfsr = f .oscillator .lfsr; last = last-fits _ (fits .sample) }; fifo = fits; volume = f .volume; panpot = f .panpot; frequency = f .frequency };
     room = room;
   }
@@ -90,7 +92,7 @@ module _ (c : Channel) (version : SguVersion) (ram n : ℕ) (small : n ≤ 2 ^ 1
   pub queue-kept-from : (q : List ℤ) → FitEntries q
       → (let v = queueTicks n (c .registers .frequency) (c .registers .panpot) q (queueSoundOf c) in Kept version ram n (afterQueue c v) (v .sides))
   queue-kept-from q entries =
-      let e = queue-steady (c .registers .frequency) (c .registers .panpot) q (f .frequency) (f .panpot) entries n 0 (queueSoundOf c) (omega arith) (record { accepted = a .fifo; fits = f .fifo; sides = room-none }) in
+      let e = queue-steady (c .registers .frequency) (c .registers .panpot) q (f .frequency) (f .panpot) entries n 0 (queueSoundOf c) (omega arith) (record { ranged = a .fifo .ranges; fits = f .fifo; sides = room-none }) in
       queue-kept q _ refl (e .fits) (plain-room n _ (e .sides))
 
 -- ---- a stream

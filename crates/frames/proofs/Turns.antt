@@ -43,7 +43,7 @@ use Rattle.voice.specs.declared.StreamSound.{StreamSound}
 use Rattle.voices.specs.Accepted.{AcceptedCore}
 use Rattle.voices.specs.Core.{noChannel, channelAt, setChannel, setFragments}
 use Rattle.voices.specs.declared.Core.{Core}
-use Rattle.frames.specs.Kept.{EachByte, FitSounding, Kept, Keeps, KeepsAny}
+use Rattle.frames.specs.Kept.{EachByte, FitSounding, Kept, Keeps, KeepsFifo}
 use Rattle.frames.specs.Ticking.{voiced, ticksAs, voiceTicks}
 use Rattle.frames.proofs.Keeping.{silent-room, cache-accepted, stream-kept}
 use Rattle.frames.proofs.ServedStreams.{ticks-most, rest-at, all-at}
@@ -140,9 +140,9 @@ module _ (version : SguVersion) (ram : List ℕ) (queues : List ℤ) (ch n : ℕ
       }
 
   pub queue-turn : kindOf c ≡ kinds.FifoDac → (v : QueueSound) (d : Channel) → v ≡ queueTicks n (c .registers .frequency) (c .registers .panpot) (part queues (ch * fifoCapacity) fifoCapacity) (queueSoundOf c)
-      → KeepsAny version n c (afterQueue c v) (v .sides) → d ≡ afterQueue c v → Turn version ram queues ch n core (setChannel core ch d) (v .sides)
+      → KeepsFifo version n c (afterQueue c v) (v .sides) → d ≡ afterQueue c v → Turn version ram queues ch n core (setChannel core ch d) (v .sides)
   queue-turn e v d ev kept ed =
-      let s = kept (length ram) a in
+      let s = kept e (length ram) a in
       record {
         same = ap (λ (x : Channel). voiced (setChannel core ch x) (v .sides)) ed ∙ ap (λ (x : QueueSound). voiced (setChannel core ch (afterQueue c x)) (x .sides)) ev ∙ at-once kinds.FifoDac e;
         ready = stored d (core .fragments) (subst (λ (x : Channel). AcceptedChannel x version (length ram)) (sym ed) (s .accepted)) (r .accepted .sized .fragments);

@@ -67,8 +67,8 @@ module _ (version : SguVersion) (ram : List ℕ) (queues : List ℤ) (n : ℕ) (
             let v : Lent = streamTicksAt (ch * 128) n ram (playOf c version) (c .registers .volume) (c .registers .panpot) (lent (streamSoundOf c (servedOf c)) (core .fragments)) in
             turn-well _ _ (whole-turn version ram queues ch n core low high there (w .ready) e (w .fits ch there) _ refl v (afterStream c (v .sound)) refl refl) (stored (afterStream c (v .sound)) (v .samples) (k .fits))
         by kinds.FifoDac e =
-            let k = queue-kept-from c version (length ram) n (omega arith) (w .ready .accepted .each ch there) (w .fits ch there) (part queues (ch * fifoCapacity) fifoCapacity) (entries ch) in
-            turn-well _ _ (queue-turn version ram queues ch n core low high there (w .ready) e _ _ refl (λ m a. queue-kept-from c version m n (omega arith) a (w .fits ch there) (part queues (ch * fifoCapacity) fifoCapacity) (entries ch)) refl) (stored _ (core .fragments) (k .fits))
+            let k = queue-kept-from c version (length ram) n (omega arith) e (w .ready .accepted .each ch there) (w .fits ch there) (part queues (ch * fifoCapacity) fifoCapacity) (entries ch) in
+            turn-well _ _ (queue-turn version ram queues ch n core low high there (w .ready) e _ _ refl (λ k m a. queue-kept-from c version m n (omega arith) k a (w .fits ch there) (part queues (ch * fifoCapacity) fifoCapacity) (entries ch)) refl) (stored _ (core .fragments) (k .fits))
 
   pub turned-well : (first : ℕ) (core : Core) → Well version (length ram) core → (k : ℕ) → Well version (length ram) (turned version ram queues first n k core .core)
   unfolding turned

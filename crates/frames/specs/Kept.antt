@@ -1,4 +1,5 @@
 -- What a voice's ticks from silence on keep: an accepted channel, the ranges that the types give, and sides that fit.
+use mathlib.Core.Path.{_≡_}
 use mathlib.Core.List.{List}
 use Prim.Native.Nat.{ℕ, _≤_, _<_, _^_}
 use lib.ListN.{getD}
@@ -8,7 +9,9 @@ use Rattle.ticks.specs.Mix.{Room}
 use Rattle.ticks.specs.Oscillators.{FitOscillator}
 use Rattle.ticks.specs.declared.Sides.{Sides}
 use Rattle.voice.specs.Accepted.{AcceptedChannel}
+use Rattle.voice.specs.Sounding.{kindOf}
 use Rattle.voice.specs.declared.Channel.{Channel}
+use Rattle.voice.specs.declared.Kind.the-variants as kinds
 
 abbrev pub EachByte : List ℕ → Type 0
 EachByte l = (i : ℕ) → getD l i 0 < 256
@@ -31,6 +34,6 @@ pub record Kept (version : SguVersion) (ram n : ℕ) (c : Channel) (sides : Side
 abbrev pub Keeps : SguVersion → ℕ → ℕ → Channel → Channel → Sides → Type 0
 Keeps version ram n c d sides = AcceptedChannel c version ram → Kept version ram n d sides
 
--- whatever the RAM's length
-abbrev pub KeepsAny : SguVersion → ℕ → Channel → Channel → Sides → Type 0
-KeepsAny version n c d sides = (ram : ℕ) → Keeps version ram n c d sides
+-- of a FIFO voice, whatever the RAM's length
+abbrev pub KeepsFifo : SguVersion → ℕ → Channel → Channel → Sides → Type 0
+KeepsFifo version n c d sides = kindOf c ≡ kinds.FifoDac → (ram : ℕ) → Keeps version ram n c d sides

@@ -11,6 +11,7 @@ pub(crate) enum Program {
     Log,
     Save,
     Load,
+    LoadStored,
 }
 
 // A run of a program: the bytes of the input buffer from `from` to before `filled` are not played yet, and begin with line
@@ -53,4 +54,9 @@ pub fn save_log() {
 // Reads such a state, and goes on with the log behind it.
 pub fn load_log() {
     start(Program::Load);
+}
+
+// The same, its voice lines read as stored ones: a chip without a FIFO drops what they have in their queues.
+pub fn load_stored_log() {
+    start(Program::LoadStored);
 }

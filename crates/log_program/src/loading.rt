@@ -9,8 +9,10 @@ use log_player::Player;
 use log_state::Found;
 use session::LineAnswer;
 
-// A state of which the lines before line k were read: the bytes of the input buffer from `from` to before `filled` follow them.
+// A state of which the lines before line k were read, as stored ones or as any: the bytes of the input buffer from `from` to
+// before `filled` follow them.
 struct Load {
+    stored: bool,
     player: Player,
     from: usize,
     filled: usize,
@@ -20,6 +22,7 @@ struct Load {
 
 fn refused(player: Player) -> Load {
     Load {
+        stored: false,
         player,
         from: 0,
         filled: 0,
@@ -40,7 +43,7 @@ fn take(
 ) -> Load {
     let player = load.player;
     let k = num::least(load.k, 8);
-    let taken = log_state::take_line(player, ram, queues, k, line);
+    let taken = log_state::take_line(load.stored, player, ram, queues, k, line);
     let after = taken.player;
     let answer = taken.answer;
     let LineAnswer::Done = answer else {
@@ -49,6 +52,7 @@ fn take(
         return refused(after);
     };
     Load {
+        stored: load.stored,
         player: after,
         from: behind,
         filled,
@@ -71,6 +75,7 @@ fn extend(
     let read = read_behind(Program::Load, &mut *input, kept);
     match read {
         Input::More(more) => Load {
+            stored: load.stored,
             player,
             from: 0,
             filled: more,
@@ -97,6 +102,7 @@ fn look(load: Load, input: &mut [u8], text: &mut [u8], ram: &[u8], queues: &mut 
             take(load, line, behind, filled, text, ram, queues)
         }
         Found::Sound(behind) => Load {
+            stored: load.stored,
             player,
             from: behind,
             filled,
@@ -170,8 +176,18 @@ fn load_ram(load: Load, input: &[u8], text: &mut [u8], ram: &mut [u8]) -> Run {
     }
 }
 
+fn reads_stored(program: Program) -> bool {
+    match program {
+        Program::Log => false,
+        Program::Save => false,
+        Program::Load => false,
+        Program::LoadStored => true,
+    }
+}
+
 // Reads a state into a fresh player; the run goes on where that could be done.
 pub(crate) fn load_state(
+    program: Program,
     fresh: Run,
     input: &mut [u8],
     text: &mut [u8],
@@ -180,6 +196,7 @@ pub(crate) fn load_state(
 ) -> Run {
     let player = fresh.player;
     let first = Load {
+        stored: reads_stored(program),
         player,
         from: 0,
         filled: 0,

@@ -8,6 +8,7 @@ pub(crate) fn complain(program: Program, reason: &[u8]) {
         Program::Log => say(b"s3w2-log: "),
         Program::Save => say(b"s3w2-save: "),
         Program::Load => say(b"s3w2-load: "),
+        Program::LoadStored => say(b"s3w2-load: "),
     }
     say(reason);
 }

@@ -36,6 +36,7 @@ fn loads(program: Program) -> bool {
         Program::Log => false,
         Program::Save => false,
         Program::Load => true,
+        Program::LoadStored => true,
     }
 }
 
@@ -45,6 +46,7 @@ fn saves(program: Program, rest: usize) -> bool {
         Program::Log => false,
         Program::Save => rest == 0,
         Program::Load => false,
+        Program::LoadStored => false,
     }
 }
 
@@ -134,7 +136,7 @@ fn first(
 ) -> Run {
     let fresh = begun(&mut *ram);
     if loads(program) {
-        return load_state(fresh, input, text, ram, queues);
+        return load_state(program, fresh, input, text, ram, queues);
     }
     fresh
 }

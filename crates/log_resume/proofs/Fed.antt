@@ -72,9 +72,9 @@ fed first second f =
     let w = played freshWorld first in
     record {
       read =
-          ap (readLines 9 0 (freshPlayer 65536) 65536 (replicate queueBuffer (pos 0)))
+          ap (readLines false 9 0 (freshPlayer 65536) 65536 (replicate queueBuffer (pos 0)))
           (all-skipped (soundsOf freshWorld [] (half first)) (stateText w ++ second) (sounds-skipped (half first) freshWorld []) (state-first w second))
-          ∙ ap (λ (ram : ℕ). readLines 9 0 (freshPlayer 65536) ram (replicate queueBuffer (pos 0)) (stateText w ++ second)) (sym (size-played first freshWorld ∙ length-replicate {A = ℕ} 65536 0))
+          ∙ ap (λ (ram : ℕ). readLines false 9 0 (freshPlayer 65536) ram (replicate queueBuffer (pos 0)) (stateText w ++ second)) (sym (size-played first freshWorld ∙ length-replicate {A = ℕ} 65536 0))
           ∙ loads w (held-played first freshWorld fresh-held f) second;
       heard = cut first second f ∙ ap (λ (r : List ℕ). soundsOf freshWorld [] (half first) ++ soundsOf (world (loaded w .player) r (loaded w .queues)) [] second) (ram-same w);
     }

@@ -1,5 +1,6 @@
 -- A state that is written, and read into a fresh player, line by line, is the one from which a cut log goes on. Assumes nothing.
 use mathlib.Core.Path.{_≡_, refl, sym, ap, ap₂, _∙_}
+use mathlib.Core.Bool.{false}
 use mathlib.Core.List.{List, _++_, map, append-assoc}
 use Prim.Native.Nat.{ℕ, zero, suc, _+_, _≤_, _<_}
 use native.Mathlib.Omega.{arith}
@@ -7,12 +8,12 @@ use lib.IntN.{ℤ, pos}
 use lib.ListN.{length, replicate}
 use Rattle.sizes.specs.Sizes.{queueBuffer}
 use Rattle.version.specs.declared.SguVersion.{SguVersion}
-use Rattle.session_lines.specs.Lines.{ReadVoice, voice, malformed, readVoice}
+use Rattle.session_lines.specs.Lines.{ReadVoice, voice, malformed, queued, readVoice}
 use Rattle.s3w2.specs.declared.Chip.{Chip}
 use Rattle.session.specs.declared.LineAnswer.the-variants.{Done}
 use Rattle.session.specs.declared.LineCalled.{LineCalled}
 use Rattle.session.specs.Heads.{readHeadCalled}
-use Rattle.session.specs.Voices.{lineOfVoice, voiceCalled, readVoiceCalled, readVoiceQueues}
+use Rattle.session.specs.Voices.{lineOfVoice, voiceCalled, voiceReadCalled, readVoiceCalled, readVoiceQueues}
 use Rattle.session.proofs.Lines.{goes-on}
 use Rattle.plain_chip.specs.Voices.{PlainVoice}
 use Rattle.slots.specs.Slots.{plainOf}
@@ -46,10 +47,12 @@ use Rattle.log_resume.proofs.Fresh.{fresh-second}
 done-of : (c : Chip) (r : ReadVoice) (ch : ℕ) (v : PlainVoice) → voiceRead r ≡ texts.voice ch v → voiceCalled c r .answer ≡ Done
 done-of c (voice x) ch v e = refl
 done-of c (malformed field) ch v e = absurd (let z : _≡_ {A = ℕ} 0 1 = cc in omega arith)
+done-of c queued ch v e = absurd (let z : _≡_ {A = ℕ} 0 1 = cc in omega arith)
 
 version-of : (c : Chip) (r : ReadVoice) → voiceCalled c r .chip .version ≡ c .version
 version-of c (voice x) = refl
 version-of c (malformed field) = refl
+version-of c queued = refl
 
 module _ (w : World) (h : HeldMachine (machineOf w)) where
   abbrev size : ℕ
@@ -75,7 +78,7 @@ module _ (w : World) (h : HeldMachine (machineOf w)) where
   -- ---- a chip of the same version reads a voice's line
   module _ (c : Chip) (q : List ℤ) (g : GoodMachine c (w .ram) q) (e : c .version ≡ version) (i : ℕ) (l : i < 8) where
     called-is : readVoiceCalled c q (line i) ≡ voiceCalled c (readVoice (c .version) (line i))
-    unfolding readVoiceCalled
+    unfolding voiceReadCalled
     called-is = sym (goes-on c q _ _ _ (g .long) (state-accepted c (w .ram) q g))
 
     is-done : readVoiceCalled c q (line i) .answer ≡ Done
@@ -98,7 +101,7 @@ module _ (w : World) (h : HeldMachine (machineOf w)) where
   ended p m more = load.loaded (withChip p (m .chip)) (m .queues) more
 
   voices : (n i : ℕ) (g : ℕ → List ℕ) → ((j k : ℕ) → j < n → k ≡ i + j → g j ≡ line k) → i + n ≤ 8 → (p : Player) (q : List ℤ) → GoodMachine (p .chip) (w .ram) q → p .chip .version ≡ version → (more : List ℕ)
-      → (ram : ℕ) → readLines n (suc i) p ram q (stateLines chip size (w .queues) n (suc i) ++ more) ≡ ended p (after code (at p q) (map list.readVoice (row n g))) more
+      → (ram : ℕ) → readLines false n (suc i) p ram q (stateLines chip size (w .queues) n (suc i) ++ more) ≡ ended p (after code (at p q) (map list.readVoice (row n g))) more
   unfolding readLines code
   voices zero i g f b p q k e more ram = refl
   voices (suc n) i g f b p q k e more ram =
@@ -106,17 +109,17 @@ module _ (w : World) (h : HeldMachine (machineOf w)) where
       let l : List ℕ = stateLine chip size (w .queues) (suc i) in
       let is : l ≡ line i = voice-line chip size (w .queues) i in
       let rest : List ℕ = stateLines chip size (w .queues) n (suc (suc i)) in
-      let done : takeLine p ram q (suc i) l .answer ≡ Done = ap (λ (t : Taken). t .answer) (take-voice p ram q l i) ∙ ap (λ (t : List ℕ). readVoiceCalled (p .chip) q t .answer) is ∙ is-done (p .chip) q k e i here in
-      let player : takeLine p ram q (suc i) l .player ≡ withChip p (readVoiceCalled (p .chip) q (line i) .chip) = ap (λ (t : Taken). t .player) (take-voice p ram q l i) ∙ ap (λ (t : List ℕ). withChip p (readVoiceCalled (p .chip) q t .chip)) is in
-      let queues : takeLineQueues p q (suc i) l ≡ readVoiceQueues (p .chip) q (line i) = take-voice-queues p ram q l i ∙ ap (readVoiceQueues (p .chip) q) is in
-      ap (readLines (suc n) (suc i) p ram q) (append-assoc l rest more)
-      ∙ read-next l (rest ++ more) (state-ended chip size (w .queues) (suc i) (omega arith)) n (suc i) p ram q done
-      ∙ ap₂ (λ (x : Player) (y : List ℤ). readLines n (suc (suc i)) x ram y (rest ++ more)) player queues
+      let done : takeLine false p ram q (suc i) l .answer ≡ Done = ap (λ (t : Taken). t .answer) (take-voice false p ram q l i) ∙ ap (λ (t : List ℕ). readVoiceCalled (p .chip) q t .answer) is ∙ is-done (p .chip) q k e i here in
+      let player : takeLine false p ram q (suc i) l .player ≡ withChip p (readVoiceCalled (p .chip) q (line i) .chip) = ap (λ (t : Taken). t .player) (take-voice false p ram q l i) ∙ ap (λ (t : List ℕ). withChip p (readVoiceCalled (p .chip) q t .chip)) is in
+      let queues : takeLineQueues false p q (suc i) l ≡ readVoiceQueues (p .chip) q (line i) = take-voice-queues false p ram q l i ∙ ap (readVoiceQueues (p .chip) q) is in
+      ap (readLines false (suc n) (suc i) p ram q) (append-assoc l rest more)
+      ∙ read-next l (rest ++ more) (state-ended chip size (w .queues) (suc i) (omega arith)) false n (suc i) p ram q done
+      ∙ ap₂ (λ (x : Player) (y : List ℤ). readLines false n (suc (suc i)) x ram y (rest ++ more)) player queues
       ∙ voices n (suc i) (λ j. g (suc j)) (λ j m o r. f (suc j) m (omega arith) (omega (arith, r))) (omega arith) (withChip p (readVoiceCalled (p .chip) q (line i) .chip)) (readVoiceQueues (p .chip) q (line i)) (held (p .chip) q k e i here) (still (p .chip) q k e i here) more ram
       ∙ ap (λ (t : List ℕ). ended p (after code (code (at p q) (list.readVoice t) .next) (map list.readVoice (row n (λ j. g (suc j))))) more) (sym (f 0 i (omega arith) (omega arith)))
 
   -- ---- THE STATE READ: a fresh player that reads it, and whatever follows it, goes on as `loaded` does, with the RAM's bytes behind the lines
-  pub loads : (more : List ℕ) → readLines 9 0 (freshPlayer 65536) size (replicate queueBuffer (pos 0)) (stateText w ++ more) ≡ load.loaded (loaded w .player) (loaded w .queues) (w .ram ++ more)
+  pub loads : (more : List ℕ) → readLines false 9 0 (freshPlayer 65536) size (replicate queueBuffer (pos 0)) (stateText w ++ more) ≡ load.loaded (loaded w .player) (loaded w .queues) (w .ram ++ more)
   loads more =
       let m = machineOf w in
       let second : Machine = fresh (w .ram) in
@@ -127,10 +130,10 @@ module _ (w : World) (h : HeldMachine (machineOf w)) where
       let is = head-line chip size (w .queues) in
       let rest : List ℕ = stateLines chip size (w .queues) 8 1 in
       let called = head-called m second h s in
-      let done : takeLine p size q 0 l .answer ≡ Done = ap (λ (t : Taken). t .answer) (take-head p size q l) ∙ ap (λ (t : List ℕ). readHeadCalled (p .chip) size t .answer) is ∙ ap (λ (x : LineCalled). x .answer) called in
-      let player : takeLine p size q 0 l .player ≡ withChip p (headedChip m second h s) = ap (λ (t : Taken). t .player) (take-head p size q l) ∙ ap (λ (t : List ℕ). withChip p (readHeadCalled (p .chip) size t .chip)) is ∙ ap (λ (x : LineCalled). withChip p (x .chip)) called in
-      ap (readLines 9 0 p size q) (append-assoc (l ++ rest) (w .ram) more ∙ append-assoc l rest (w .ram ++ more))
-      ∙ read-next l (rest ++ (w .ram ++ more)) (state-ended chip size (w .queues) 0 (omega arith)) 8 0 p size q done
-      ∙ ap₂ (λ (x : Player) (y : List ℤ). readLines 8 1 x size y (rest ++ (w .ram ++ more))) player (take-head-queues p size q l)
+      let done : takeLine false p size q 0 l .answer ≡ Done = ap (λ (t : Taken). t .answer) (take-head false p size q l) ∙ ap (λ (t : List ℕ). readHeadCalled (p .chip) size t .answer) is ∙ ap (λ (x : LineCalled). x .answer) called in
+      let player : takeLine false p size q 0 l .player ≡ withChip p (headedChip m second h s) = ap (λ (t : Taken). t .player) (take-head false p size q l) ∙ ap (λ (t : List ℕ). withChip p (readHeadCalled (p .chip) size t .chip)) is ∙ ap (λ (x : LineCalled). withChip p (x .chip)) called in
+      ap (readLines false 9 0 p size q) (append-assoc (l ++ rest) (w .ram) more ∙ append-assoc l rest (w .ram ++ more))
+      ∙ read-next l (rest ++ (w .ram ++ more)) (state-ended chip size (w .queues) 0 (omega arith)) false 8 0 p size q done
+      ∙ ap₂ (λ (x : Player) (y : List ℤ). readLines false 8 1 x size y (rest ++ (w .ram ++ more))) player (take-head-queues false p size q l)
       ∙ voices 8 0 line (λ j k o r. ap line (omega (arith, r))) (omega arith) (withChip p (headedChip m second h s)) q (headed-held m second h s) refl (w .ram ++ more) size
       ∙ ap (λ (x : Machine). load.loaded (record { chip = x .chip; left = 0; right = 0 }) (x .queues) (w .ram ++ more)) (sym (read-on m second h s))

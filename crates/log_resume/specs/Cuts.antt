@@ -72,7 +72,7 @@ loaded w = world (record { chip = loadedMachine w .chip; left = 0; right = 0 }) 
 -- the state, is read by s3w2-load as `loaded`, with the RAM and the second half behind it; and the whole log prints the first half's lines and then those that the second
 -- half prints from there.
 pub record CutLog (first : List (List ℕ)) (second : List ℕ) : Type 0 where
-  pub read : readLines 9 0 (freshPlayer 65536) 65536 (replicate queueBuffer (pos 0)) (skipped (soundsOf freshWorld [] (half first) ++ (stateText (played freshWorld first) ++ second)))
+  pub read : readLines false 9 0 (freshPlayer 65536) 65536 (replicate queueBuffer (pos 0)) (skipped (soundsOf freshWorld [] (half first) ++ (stateText (played freshWorld first) ++ second)))
       ≡ load.loaded (loaded (played freshWorld first) .player) (loaded (played freshWorld first) .queues) (played freshWorld first .ram ++ second)
   pub heard : soundsOf freshWorld [] (half first ++ second)
       ≡ soundsOf freshWorld [] (half first) ++ soundsOf (world (loaded (played freshWorld first) .player) (played freshWorld first .ram) (loaded (played freshWorld first) .queues)) [] second

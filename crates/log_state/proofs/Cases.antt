@@ -1,5 +1,6 @@
 -- A line written or read, by its kind. Assumes nothing.
 use mathlib.Core.Path.{_≡_, refl, ap, _∙_}
+use mathlib.Core.Bool.{Bool}
 use mathlib.Core.List.{List}
 use Prim.Native.Nat.{ℕ, _-_}
 use lib.IntN.{ℤ}
@@ -8,7 +9,7 @@ use Rattle.s3w2.specs.declared.Chip.{Chip}
 use Rattle.session.specs.declared.LineAnswer.{LineAnswer}
 use Rattle.session.specs.declared.LineCalled.{LineCalled}
 use Rattle.session.specs.Heads.{writeHeadAnswer, writeHeadText, readHeadCalled}
-use Rattle.session.specs.Voices.{writeVoiceAnswer, writeVoiceText, readVoiceCalled, readVoiceQueues}
+use Rattle.session.specs.Voices.{writeVoiceAnswer, writeVoiceText, voiceReadCalled, voiceReadQueues}
 use Rattle.log_player.specs.declared.Player.{Player}
 use Rattle.log_state.specs.declared.Taken.{Taken}
 use Rattle.log_state.specs.Lines.{putLineAnswer, putLineText, takenBy, takeLine, takeLineQueues}
@@ -22,11 +23,11 @@ module _ (chip : Chip) (ram : ℕ) (queues : List ℤ) (k : ℕ) (out text : Lis
   unfolding putLineAnswer putLineText
   voice-written e h = rw (ne-eqb k 0 e) h
 
-module _ (p : Player) (ram : ℕ) (queues : List ℤ) (k : ℕ) (text : List ℕ) (r : Taken) (called : LineCalled) where
-  pub head-taken : k ≡ 0 → called ≡ readHeadCalled (p .chip) ram text → r ≡ takenBy p called → (r ≡ takeLine p ram queues k text) × (queues ≡ takeLineQueues p queues k text)
+module _ (stored : Bool) (p : Player) (ram : ℕ) (queues : List ℤ) (k : ℕ) (text : List ℕ) (r : Taken) (called : LineCalled) where
+  pub head-taken : k ≡ 0 → called ≡ readHeadCalled (p .chip) ram text → r ≡ takenBy p called → (r ≡ takeLine stored p ram queues k text) × (queues ≡ takeLineQueues stored p queues k text)
   unfolding takeLine takeLineQueues
   head-taken e h s = rw (eq-eqb k 0 e) (s ∙ ap (λ (x : LineCalled). takenBy p x) h, refl)
 
-  pub voice-taken : (after : List ℤ) → (k ≡ 0 → ⊥) → (called ≡ readVoiceCalled (p .chip) queues text) × (after ≡ readVoiceQueues (p .chip) queues text) → r ≡ takenBy p called → (r ≡ takeLine p ram queues k text) × (after ≡ takeLineQueues p queues k text)
+  pub voice-taken : (b : Bool) (after : List ℤ) → (k ≡ 0 → ⊥) → stored ≡ b → (called ≡ voiceReadCalled b (p .chip) queues text) × (after ≡ voiceReadQueues b (p .chip) queues text) → r ≡ takenBy p called → (r ≡ takeLine stored p ram queues k text) × (after ≡ takeLineQueues stored p queues k text)
   unfolding takeLine takeLineQueues
-  voice-taken after e h s = rw (ne-eqb k 0 e) (s ∙ ap (λ (x : LineCalled). takenBy p x) (h .0), h .1)
+  voice-taken b after e f h s = rw (ne-eqb k 0 e, f) (s ∙ ap (λ (x : LineCalled). takenBy p x) (h .0), h .1)

@@ -25,7 +25,7 @@ use Rattle.session.specs.declared.LineAnswer.the-variants.{Done, Written, RamLe
 use Rattle.session.specs.Answers.{wrote, stateAccepted, withLentQueues, withLentRam}
 use Rattle.session.proofs.Lines.{goes-on, goes-over}
 use Rattle.session.specs.Heads.{writeHeadAnswer, writeHeadText, readHeadCalled}
-use Rattle.session.specs.Voices.{lineOfVoice, writeVoiceAnswer, writeVoiceText, readVoiceCalled, readVoiceQueues}
+use Rattle.session.specs.Voices.{lineOfVoice, writeVoiceAnswer, writeVoiceText, voiceReadCalled, voiceReadQueues}
 use Rattle.log_player.specs.declared.Player.{Player}
 use Rattle.log_player.specs.Steps.{firstLine}
 use Rattle.log_state.specs.declared.Found.the-variants.{Line}
@@ -144,12 +144,12 @@ module _ (line rest : List ℕ) (e : Ended line) where
   behind-is = ap (λ (n : ℕ). drop n (line ++ rest)) behind ∙ drop-append-seam line rest
 
   -- and one more line is read
-  pub read-next : (n k : ℕ) (p : Player) (ram : ℕ) (queues : List ℤ) → takeLine p ram queues k line .answer ≡ Done
-      → readLines (suc n) k p ram queues (line ++ rest) ≡ readLines n (suc k) (takeLine p ram queues k line .player) ram (takeLineQueues p queues k line) rest
+  pub read-next : (stored : Bool) (n k : ℕ) (p : Player) (ram : ℕ) (queues : List ℤ) → takeLine stored p ram queues k line .answer ≡ Done
+      → readLines stored (suc n) k p ram queues (line ++ rest) ≡ readLines stored n (suc k) (takeLine stored p ram queues k line .player) ram (takeLineQueues stored p queues k line) rest
   unfolding readLines
-  read-next n k p ram queues d =
-      ap₂ (λ (x y : List ℕ). goesOn (takeLine p ram queues k x .answer) (readLines n (suc k) (takeLine p ram queues k x .player) ram (takeLineQueues p queues k x) y)) front-is behind-is
-      ∙ ap (λ (a : LineAnswer). goesOn a (readLines n (suc k) (takeLine p ram queues k line .player) ram (takeLineQueues p queues k line) rest)) d
+  read-next stored n k p ram queues d =
+      ap₂ (λ (x y : List ℕ). goesOn (takeLine stored p ram queues k x .answer) (readLines stored n (suc k) (takeLine stored p ram queues k x .player) ram (takeLineQueues stored p queues k x) y)) front-is behind-is
+      ∙ ap (λ (a : LineAnswer). goesOn a (readLines stored n (suc k) (takeLine stored p ram queues k line .player) ram (takeLineQueues stored p queues k line) rest)) d
 
   found : (at k : ℕ) → soundLine (getD (line ++ rest) 0 0) k ≡ false → foundAt (line ++ rest) at k ≡ Line (at + length line)
   unfolding foundAt
@@ -178,20 +178,20 @@ module _ (chip : Chip) (ram : ℕ) (queues : List ℤ) (k : ℕ) where
   state-found at rest h = found (stateLine chip ram queues k) rest (state-ended h) at k (no-sound rest)
 
 -- ---- the head and the voices by their lines
-module _ (p : Player) (ram : ℕ) (queues : List ℤ) (text : List ℕ) where
-  pub take-head : takeLine p ram queues 0 text ≡ takenBy p (readHeadCalled (p .chip) ram text)
+module _ (stored : Bool) (p : Player) (ram : ℕ) (queues : List ℤ) (text : List ℕ) where
+  pub take-head : takeLine stored p ram queues 0 text ≡ takenBy p (readHeadCalled (p .chip) ram text)
   unfolding takeLine
   take-head = refl
 
-  pub take-head-queues : takeLineQueues p queues 0 text ≡ queues
+  pub take-head-queues : takeLineQueues stored p queues 0 text ≡ queues
   unfolding takeLineQueues
   take-head-queues = refl
 
-  pub take-voice : (i : ℕ) → takeLine p ram queues (suc i) text ≡ takenBy p (readVoiceCalled (p .chip) queues text)
+  pub take-voice : (i : ℕ) → takeLine stored p ram queues (suc i) text ≡ takenBy p (voiceReadCalled stored (p .chip) queues text)
   unfolding takeLine
   take-voice i = rw (ne-eqb (suc i) 0 (λ e. absurd (omega arith)))
 
-  pub take-voice-queues : (i : ℕ) → takeLineQueues p queues (suc i) text ≡ readVoiceQueues (p .chip) queues text
+  pub take-voice-queues : (i : ℕ) → takeLineQueues stored p queues (suc i) text ≡ voiceReadQueues stored (p .chip) queues text
   unfolding takeLineQueues
   take-voice-queues i = rw (ne-eqb (suc i) 0 (λ e. absurd (omega arith)))
 

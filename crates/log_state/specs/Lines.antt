@@ -1,5 +1,5 @@
 -- The lines of a state, written and read.
-use mathlib.Core.Bool.{cond}
+use mathlib.Core.Bool.{Bool, cond}
 use mathlib.Core.List.{List, [], _++_}
 use Prim.Native.Nat.{ℕ, zero, suc, _-_}
 use lib.Dec.{eqb}
@@ -10,7 +10,7 @@ use Rattle.s3w2.specs.declared.Chip.{Chip}
 use Rattle.session.specs.declared.LineAnswer.{LineAnswer}
 use Rattle.session.specs.declared.LineCalled.{LineCalled}
 use Rattle.session.specs.Heads.{writeHeadAnswer, writeHeadText, readHeadCalled}
-use Rattle.session.specs.Voices.{lineOfVoice, writeVoiceAnswer, writeVoiceText, readVoiceCalled, readVoiceQueues}
+use Rattle.session.specs.Voices.{lineOfVoice, writeVoiceAnswer, writeVoiceText, voiceReadCalled, voiceReadQueues}
 use Rattle.log_player.specs.declared.Player.{Player}
 use Rattle.log_player.specs.Worlds.{World, withChip}
 use Rattle.log_state.specs.declared.Taken.{Taken}
@@ -36,13 +36,13 @@ putLineAnswer chip ram queues k out = cond (eqb k 0) (writeHeadAnswer chip ram o
 unfoldable pub putLineText : Chip → ℕ → List ℤ → ℕ → List ℕ → List ℕ
 putLineText chip ram queues k out = cond (eqb k 0) (writeHeadText chip ram out) (writeVoiceText chip queues (k - 1) out)
 
--- ---- a line read: the peaks stay
+-- ---- a line read, as a stored one or as any: the peaks stay
 
 abbrev pub takenBy : Player → LineCalled → Taken
 takenBy p called = record { player = withChip p (called .chip); answer = called .answer }
 
-unfoldable pub takeLine : Player → ℕ → List ℤ → ℕ → List ℕ → Taken
-takeLine p ram queues k text = takenBy p (cond (eqb k 0) (readHeadCalled (p .chip) ram text) (readVoiceCalled (p .chip) queues text))
+unfoldable pub takeLine : Bool → Player → ℕ → List ℤ → ℕ → List ℕ → Taken
+takeLine stored p ram queues k text = takenBy p (cond (eqb k 0) (readHeadCalled (p .chip) ram text) (voiceReadCalled stored (p .chip) queues text))
 
-unfoldable pub takeLineQueues : Player → List ℤ → ℕ → List ℕ → List ℤ
-takeLineQueues p queues k text = cond (eqb k 0) queues (readVoiceQueues (p .chip) queues text)
+unfoldable pub takeLineQueues : Bool → Player → List ℤ → ℕ → List ℕ → List ℤ
+takeLineQueues stored p queues k text = cond (eqb k 0) queues (voiceReadQueues stored (p .chip) queues text)

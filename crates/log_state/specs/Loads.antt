@@ -1,11 +1,11 @@
 -- A state's lines read from the front of an input, and those that a player printed before them.
-use mathlib.Core.Bool.{cond}
+use mathlib.Core.Bool.{Bool, cond}
 use mathlib.Core.List.{List}
 use Prim.Native.Nat.{ℕ, zero, suc}
 use lib.IntN.{ℤ}
 use lib.ListN.{length, take, drop, getD}
 use Rattle.session.specs.declared.LineAnswer.{LineAnswer}
-use Rattle.session.specs.declared.LineAnswer.the-variants.{Done, Written, RamLength, QueueBuffer, NotAccepted, TextBuffer, Malformed, OtherLength}
+use Rattle.session.specs.declared.LineAnswer.the-variants.{Done, Written, RamLength, QueueBuffer, NotAccepted, TextBuffer, Malformed, OtherLength, Queued}
 use Rattle.log_player.specs.declared.Player.{Player}
 use Rattle.log_player.specs.Steps.{firstLine}
 use Rattle.log_state.specs.Lines.{takeLine, takeLineQueues}
@@ -32,13 +32,14 @@ goesOn NotAccepted next = refused NotAccepted
 goesOn TextBuffer next = refused TextBuffer
 goesOn (Malformed field) next = refused (Malformed field)
 goesOn OtherLength next = refused OtherLength
+goesOn Queued next = refused Queued
 
 -- n lines, from line k on, by a player over a RAM of some length
-unfoldable pub readLines : ℕ → ℕ → Player → ℕ → List ℤ → List ℕ → Load
-readLines zero k p ram queues input = loaded p queues input
-readLines (suc n) k p ram queues input =
-    goesOn (takeLine p ram queues k (frontLine input) .answer)
-    (readLines n (suc k) (takeLine p ram queues k (frontLine input) .player) ram (takeLineQueues p queues k (frontLine input)) (behindLine input))
+unfoldable pub readLines : Bool → ℕ → ℕ → Player → ℕ → List ℤ → List ℕ → Load
+readLines stored zero k p ram queues input = loaded p queues input
+readLines stored (suc n) k p ram queues input =
+    goesOn (takeLine stored p ram queues k (frontLine input) .answer)
+    (readLines stored n (suc k) (takeLine stored p ram queues k (frontLine input) .player) ram (takeLineQueues stored p queues k (frontLine input)) (behindLine input))
 
 -- the lines that a player printed before a state are skipped, at most so many
 unfoldable pub skipLines : ℕ → List ℕ → List ℕ

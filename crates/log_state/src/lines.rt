@@ -35,14 +35,24 @@ fn taken(player: Player, called: LineCalled) -> Taken
     }
 }
 
-// Reads line k. A voice line sets the voice that its first field names.
-pub fn take_line(player: Player, ram: &[u8], queues: &mut [i16], k: usize, text: &[u8]) -> Taken
-    ensures result { λ r. ⌜ r ≡ takeLine player (length (now (ram .entry))) (now (queues .entry)) k (now (text .entry)) ⌝ }
-    ensures queues { λ _. ⌜ now (queues .exit) ≡ takeLineQueues player (now (queues .entry)) k (now (text .entry)) ⌝ }
+// Reads line k, as a stored line or as any. A voice line sets the voice that its first field names.
+pub fn take_line(
+    stored: bool,
+    player: Player,
+    ram: &[u8],
+    queues: &mut [i16],
+    k: usize,
+    text: &[u8],
+) -> Taken
+    ensures result { λ r. ⌜ r ≡ takeLine stored player (length (now (ram .entry))) (now (queues .entry)) k (now (text .entry)) ⌝ }
+    ensures queues { λ _. ⌜ now (queues .exit) ≡ takeLineQueues stored player (now (queues .entry)) k (now (text .entry)) ⌝ }
 {
     let chip = player.chip;
     if k == 0 {
         return taken(player, session::read_head(chip, ram, text));
+    }
+    if stored {
+        return taken(player, session::read_stored_voice(chip, queues, text));
     }
     taken(player, session::read_voice(chip, queues, text))
 }

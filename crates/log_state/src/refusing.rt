@@ -36,6 +36,7 @@ pub fn put_refusal(answer: LineAnswer, out: &mut [u8], at: usize) -> usize
         LineAnswer::TextBuffer => put_number(out, at, 15),
         LineAnswer::Malformed(field) => put_malformed(out, at, field),
         LineAnswer::OtherLength => put_number(out, at, 22),
+        LineAnswer::Queued => put_number(out, at, 23),
     }
 }
 

@@ -1,10 +1,10 @@
 -- Accepted values: the tests and what they say, clause by clause; what every write keeps. Assumes nothing.
-use mathlib.Core.Path.{_≡_, refl, sym}
+use mathlib.Core.Path.{_≡_, refl, sym, ap, _∙_}
 use mathlib.Core.Bool.{Bool, true, false, cond, _&&_}
 use Prim.Native.Nat.{ℕ, _*_, _-_, _%_, _^_, _≤_, _<_}
 use native.Mathlib.Omega.{arith}
 use lib.Dec.{eqb, leb, ltb}
-use lib.IntN.{ℤ}
+use lib.IntN.{ℤ, pos, negsuc, natAbs}
 use mathlib.Core.List.{List}
 use borrow.Author.Tests.{leb-true, ltb-true, eqb-true, eq-eqb, le-leb, lt-ltb, leb-false}
 use Rattle.sizes.specs.Sizes.{fifoCapacity}
@@ -15,7 +15,7 @@ use Rattle.version.specs.Versions.{has3ws8pna}
 use Rattle.registers.specs.Waveforms.{waveformNumber, withoutFifo, under}
 use Rattle.registers.specs.Control.{defaultRegisters, setWaveform, writeRegisters, acceptsRegisters, AcceptedRegisters}
 use Rattle.registers.specs.Pcm.{defaultPcm, setSampleControl, setActive, writePcm, acceptsPcm, AcceptedPcm}
-use Rattle.registers.specs.Queue.{defaultFifo, setLatch, pushed, popped, advanced, ticked, acceptsFifo, AcceptedFifo}
+use Rattle.registers.specs.Queue.{defaultFifo, setLatch, pushed, popped, advanced, ticked, isQuiet, QuietFifo, allowsFifo, keptFifo, rangesFifo, RangedFifo, acceptsFifo, AcceptedFifo}
 use Rattle.version.specs.declared.SguVersion.{SguVersion}
 use Rattle.registers.specs.declared.WaveformType.{WaveformType}
 use Rattle.registers.specs.declared.WaveformType.the-variants.{Wavetable, Pcm, Noise, DmaPcm, Sqv4, FifoDac}
@@ -139,46 +139,110 @@ default-pcm = record { sampleControl = omega arith; start = omega arith; end = o
 -- ---- the queue
 
 module _ (f : Fifo) where
-  pub accepted-fifo : acceptsFifo f ≡ true → AcceptedFifo f
-  unfolding acceptsFifo
-  accepted-fifo e =
+  pub ranged-fifo : rangesFifo f ≡ true → RangedFifo f
+  unfolding rangesFifo
+  ranged-fifo e =
       let a = both (leb (f .count) fifoCapacity) _ e in
       let b = both (ltb (f .head) fifoCapacity) _ (a .1) in
       let d = both (leb (f .sub) 3) _ (b .1) in
       record { full = leb-true _ _ (a .0); first = ltb-true _ _ (b .0); tick = leb-true _ _ (d .0); frames = leb-true _ _ (d .1) }
 
-  pub fifo-accepted : AcceptedFifo f → acceptsFifo f ≡ true
-  unfolding acceptsFifo
-  fifo-accepted a = together _ _ (le-leb _ _ (a .full)) (together _ _ (lt-ltb _ _ (a .first)) (together _ _ (le-leb _ _ (a .tick)) (le-leb _ _ (a .frames))))
+  pub fifo-ranged : RangedFifo f → rangesFifo f ≡ true
+  unfolding rangesFifo
+  fifo-ranged a = together _ _ (le-leb _ _ (a .full)) (together _ _ (lt-ltb _ _ (a .first)) (together _ _ (le-leb _ _ (a .tick)) (le-leb _ _ (a .frames))))
 
-  pub latch-accepted : (value : ℕ) → AcceptedFifo f → AcceptedFifo (setLatch f value)
-  latch-accepted value a = record { full = a .full; first = a .first; tick = a .tick; frames = a .frames }
+  pub latch-ranged : (value : ℕ) → RangedFifo f → RangedFifo (setLatch f value)
+  latch-ranged value a = record { full = a .full; first = a .first; tick = a .tick; frames = a .frames }
 
-  pub push-accepted : AcceptedFifo f → AcceptedFifo (pushed f)
+  pub push-ranged : RangedFifo f → RangedFifo (pushed f)
   unfolding pushed
-  push-accepted a =
-      cond-by AcceptedFifo (ltb (f .count) fifoCapacity) _ _
+  push-ranged a =
+      cond-by RangedFifo (ltb (f .count) fifoCapacity) _ _
       (λ e. record { full = omega (arith, ltb-true (f .count) fifoCapacity e); first = a .first; tick = a .tick; frames = a .frames })
       (λ e. a)
 
   module _ (q : List ℤ) (frequency : ℕ) (h : frequency < 2 ^ 16) where
-    pub pop-accepted : AcceptedFifo f → AcceptedFifo (popped f q frequency)
+    pub pop-ranged : RangedFifo f → RangedFifo (popped f q frequency)
     unfolding popped
-    pop-accepted a =
-        cond-by AcceptedFifo (eqb (f .count) 0) _ _ (λ e. a)
+    pop-ranged a =
+        cond-by RangedFifo (eqb (f .count) 0) _ _ (λ e. a)
         (λ e. record { full = omega (arith, a .full); first = omega arith; tick = a .tick; frames = omega arith })
 
-    pub advance-accepted : AcceptedFifo f → AcceptedFifo (advanced f q frequency)
+    pub advance-ranged : RangedFifo f → RangedFifo (advanced f q frequency)
     unfolding advanced
-    advance-accepted a =
-        cond-by AcceptedFifo (eqb (f .hold) 0) _ _ (λ e. pop-accepted a)
+    advance-ranged a =
+        cond-by RangedFifo (eqb (f .hold) 0) _ _ (λ e. pop-ranged a)
         (λ e. record { full = a .full; first = a .first; tick = a .tick; frames = omega (arith, a .frames) })
 
-    pub tick-accepted : AcceptedFifo f → AcceptedFifo (ticked f q frequency)
+    pub tick-ranged : RangedFifo f → RangedFifo (ticked f q frequency)
     unfolding ticked
-    tick-accepted a =
-        let b = cond-by AcceptedFifo (eqb (f .sub) 0) (advanced f q frequency) f (λ e. advance-accepted a) (λ e. a) in
+    tick-ranged a =
+        let b = cond-by RangedFifo (eqb (f .sub) 0) (advanced f q frequency) f (λ e. advance-ranged a) (λ e. a) in
         record { full = b .full; first = b .first; tick = omega arith; frames = b .frames }
 
-pub default-fifo : AcceptedFifo defaultFifo
-default-fifo = record { full = omega arith; first = omega arith; tick = omega arith; frames = omega arith }
+pub default-ranged : RangedFifo defaultFifo
+default-ranged = record { full = omega arith; first = omega arith; tick = omega arith; frames = omega arith }
+
+-- ---- nothing in it
+pub no-size : (z : ℤ) → natAbs z ≡ 0 → z ≡ pos 0
+no-size (pos n) e = ap pos e
+no-size (negsuc n) e = absurd (omega (arith, e))
+
+module _ (f : Fifo) where
+  pub quiet-fifo : isQuiet f ≡ true → QuietFifo f
+  unfolding isQuiet
+  quiet-fifo e =
+      let a = both (eqb (natAbs (f .held)) 0) _ e in
+      let b = both (eqb (f .hold) 0) _ (a .1) in
+      let c = both (eqb (f .sub) 0) _ (b .1) in
+      let d = both (eqb (f .latch) 0) _ (c .1) in
+      record { held = no-size (f .held) (eqb-true _ _ (a .0)); hold = eqb-true _ _ (b .0); sub = eqb-true _ _ (c .0); latch = eqb-true _ _ (d .0); count = eqb-true _ _ (d .1) }
+
+  pub fifo-quiet : QuietFifo f → isQuiet f ≡ true
+  unfolding isQuiet
+  fifo-quiet q =
+      together _ _ (eq-eqb (natAbs (f .held)) 0 (ap natAbs (q .held)))
+      (together _ _ (eq-eqb (f .hold) 0 (q .hold)) (together _ _ (eq-eqb (f .sub) 0 (q .sub)) (together _ _ (eq-eqb (f .latch) 0 (q .latch)) (eq-eqb (f .count) 0 (q .count)))))
+
+pub default-quiet : QuietFifo defaultFifo
+default-quiet = record { held = refl; hold = refl; sub = refl; latch = refl; count = refl }
+
+-- ---- under a version
+module _ (version : SguVersion) (f : Fifo) where
+  pub allowed-quiet : allowsFifo version f ≡ true → has3ws8pna version ≡ false → QuietFifo f
+  unfolding allowsFifo
+  allowed-quiet e h = quiet-fifo f (sym (ap (λ (b : Bool). cond b true (isQuiet f)) h) ∙ e)
+
+  pub quiet-allowed : (has3ws8pna version ≡ false → QuietFifo f) → allowsFifo version f ≡ true
+  unfolding allowsFifo
+  quiet-allowed q = cond-by (λ (b : Bool). b ≡ true) (has3ws8pna version) true (isQuiet f) (λ e. refl) (λ e. fifo-quiet f (q e))
+
+  pub accepted-fifo : acceptsFifo version f ≡ true → AcceptedFifo version f
+  unfolding acceptsFifo
+  accepted-fifo e =
+      let a = both (rangesFifo f) _ e in
+      record { ranges = ranged-fifo f (a .0); quiet = allowed-quiet (a .1) }
+
+  pub fifo-accepted : AcceptedFifo version f → acceptsFifo version f ≡ true
+  unfolding acceptsFifo
+  fifo-accepted a = together _ _ (fifo-ranged f (a .ranges)) (quiet-allowed (a .quiet))
+
+  -- a version that has a FIFO asks for the ranges alone
+  pub with-fifo : has3ws8pna version ≡ true → RangedFifo f → AcceptedFifo version f
+  with-fifo h r = record { ranges = r; quiet = λ e. never (sym h ∙ e) }
+
+  -- what is kept is allowed, and what is allowed is kept
+  pub kept-quiet : has3ws8pna version ≡ false → QuietFifo (keptFifo version f)
+  unfolding keptFifo
+  kept-quiet h = cond-by QuietFifo (allowsFifo version f) f defaultFifo (λ e. allowed-quiet e h) (λ e. default-quiet)
+
+  pub kept-ranged : RangedFifo f → RangedFifo (keptFifo version f)
+  unfolding keptFifo
+  kept-ranged r = cond-by RangedFifo (allowsFifo version f) f defaultFifo (λ e. r) (λ e. default-ranged)
+
+  pub kept-same : allowsFifo version f ≡ true → keptFifo version f ≡ f
+  unfolding keptFifo
+  kept-same e = ap (λ (b : Bool). cond b f defaultFifo) e
+
+pub default-fifo : (version : SguVersion) → AcceptedFifo version defaultFifo
+default-fifo version = record { ranges = default-ranged; quiet = λ e. default-quiet }

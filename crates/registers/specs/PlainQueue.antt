@@ -1,4 +1,5 @@
 -- The queue as a plain list, oldest first, with no head.
+use mathlib.Core.Path.{_≡_}
 use mathlib.Core.Bool.{cond}
 use mathlib.Core.List.{List, [], _∷_, _++_}
 use Prim.Native.Nat.{ℕ, _+_, _-_, _%_}
@@ -42,6 +43,14 @@ plainAdvanced p frequency = cond (eqb (p .hold) 0) (plainPopped p frequency) (pl
 
 unfoldable pub plainTicked : PlainQueue → ℕ → PlainQueue
 plainTicked p frequency = plainSub (cond (eqb (p .sub) 0) (plainAdvanced p frequency) p) ((p .sub + 1) % 4)
+
+-- nothing was pushed, held or latched
+pub record QuietQueue (p : PlainQueue) : Type 0 where
+  pub samples : p .samples ≡ []
+  pub held : p .held ≡ pos 0
+  pub hold : p .hold ≡ 0
+  pub sub : p .sub ≡ 0
+  pub latch : p .latch ≡ 0
 
 -- ---- the ranges of the samples: entries of a ring, or of the list
 pub record FitEntries (q : List ℤ) : Type 0 where

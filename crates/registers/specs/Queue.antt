@@ -1,13 +1,16 @@
 -- The queue of a FIFO voice: a ring over the voice's own 2,048 entries, and the sample that is held.
-use mathlib.Core.Bool.{Bool, cond, _&&_}
+use mathlib.Core.Path.{_≡_}
+use mathlib.Core.Bool.{Bool, true, false, cond, _&&_}
 use mathlib.Core.List.{List, [], _∷_}
 use Prim.Native.Nat.{ℕ, zero, suc, _+_, _-_, _%_, _^_, _≤_, _<_}
 use lib.Dec.{eqb, leb, ltb}
-use lib.IntN.{ℤ, pos}
+use lib.IntN.{ℤ, pos, natAbs}
 use lib.ListN.{set, getD}
 use mir.Syntax.{w16}
 use mir.Val.{SFits}
 use Rattle.sizes.specs.Sizes.{fifoCapacity}
+use Rattle.version.specs.Versions.{has3ws8pna}
+use Rattle.version.specs.declared.SguVersion.{SguVersion}
 use Rattle.registers.specs.PlainQueue.{PlainQueue}
 use Rattle.registers.specs.declared.Fifo.{Fifo}
 
@@ -65,14 +68,41 @@ abbrev pub plainQueueOf : List ℤ → Fifo → PlainQueue
 plainQueueOf q f = record { samples = queued q (f .head) (f .count); held = f .held; hold = f .hold; sub = f .sub; latch = f .latch }
 
 -- ---- accepted values
-unfoldable pub acceptsFifo : Fifo → Bool
-acceptsFifo f = leb (f .count) fifoCapacity && (ltb (f .head) fifoCapacity && (leb (f .sub) 3 && leb (f .hold) 65535))
 
-pub record AcceptedFifo (f : Fifo) : Type 0 where
+-- nothing was pushed, held or latched; the head may stand anywhere
+unfoldable pub isQuiet : Fifo → Bool
+isQuiet f = eqb (natAbs (f .held)) 0 && (eqb (f .hold) 0 && (eqb (f .sub) 0 && (eqb (f .latch) 0 && eqb (f .count) 0)))
+
+pub record QuietFifo (f : Fifo) : Type 0 where
+  pub held : f .held ≡ pos 0
+  pub hold : f .hold ≡ 0
+  pub sub : f .sub ≡ 0
+  pub latch : f .latch ≡ 0
+  pub count : f .count ≡ 0
+
+-- V1 and V2 have no FIFO, and no call puts anything into a queue there
+unfoldable pub allowsFifo : SguVersion → Fifo → Bool
+allowsFifo version f = cond (has3ws8pna version) true (isQuiet f)
+
+-- what a version keeps of a queue that was stored
+unfoldable pub keptFifo : SguVersion → Fifo → Fifo
+keptFifo version f = cond (allowsFifo version f) f defaultFifo
+
+unfoldable pub rangesFifo : Fifo → Bool
+rangesFifo f = leb (f .count) fifoCapacity && (ltb (f .head) fifoCapacity && (leb (f .sub) 3 && leb (f .hold) 65535))
+
+pub record RangedFifo (f : Fifo) : Type 0 where
   pub full : f .count ≤ fifoCapacity
   pub first : f .head < fifoCapacity
   pub tick : f .sub ≤ 3
   pub frames : f .hold ≤ 65535
+
+unfoldable pub acceptsFifo : SguVersion → Fifo → Bool
+acceptsFifo version f = rangesFifo f && allowsFifo version f
+
+pub record AcceptedFifo (version : SguVersion) (f : Fifo) : Type 0 where
+  pub ranges : RangedFifo f
+  pub quiet : has3ws8pna version ≡ false → QuietFifo f
 
 -- ---- the ranges of the other fields
 pub record FitFifo (f : Fifo) : Type 0 where

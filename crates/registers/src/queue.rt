@@ -1,8 +1,10 @@
 // The queue of a FIFO voice: a ring over the voice's own entries, and the sample that is held.
 ghost use mathlib.Core.Path.{_≡_};
-ghost use Rattle.registers.specs.Queue.{defaultFifo, pushed, pushedEntries, popped, advanced, ticked, acceptsFifo};
+ghost use Rattle.registers.specs.Queue.{defaultFifo, pushed, pushedEntries, popped, advanced, ticked};
+ghost use Rattle.registers.specs.Queue.{isQuiet, allowsFifo, keptFifo, acceptsFifo};
 use crate::Fifo;
 use sizes::FIFO_CAPACITY;
+use version::SguVersion;
 
 impl Fifo {
     // An empty queue.
@@ -79,9 +81,48 @@ impl Fifo {
         f
     }
 
+    // Whether nothing was pushed, held or latched.
+    pub fn is_quiet(self) -> bool
+        ensures { λ r. ⌜ r ≡ isQuiet self ⌝ }
+    {
+        if self.held != 0 {
+            return false;
+        }
+        if self.hold != 0 {
+            return false;
+        }
+        if self.sub != 0 {
+            return false;
+        }
+        if self.latch != 0 {
+            return false;
+        }
+        self.count == 0
+    }
+
+    // Whether a version has such a queue: V1 and V2 have no FIFO, so nothing may be in it.
+    pub fn is_allowed(self, version: SguVersion) -> bool
+        ensures { λ r. ⌜ r ≡ allowsFifo version self ⌝ }
+    {
+        if version.has_3ws8pna() {
+            return true;
+        }
+        self.is_quiet()
+    }
+
+    // What a version keeps of a queue that was stored.
+    pub fn kept(self, version: SguVersion) -> Fifo
+        ensures { λ r. ⌜ r ≡ keptFifo version self ⌝ }
+    {
+        if self.is_allowed(version) {
+            return self;
+        }
+        Fifo::default()
+    }
+
     // Whether the queue is that of an accepted state.
-    pub fn accepts(self) -> bool
-        ensures { λ r. ⌜ r ≡ acceptsFifo self ⌝ }
+    pub fn accepts(self, version: SguVersion) -> bool
+        ensures { λ r. ⌜ r ≡ acceptsFifo version self ⌝ }
     {
         if FIFO_CAPACITY < self.count {
             return false;
@@ -92,6 +133,9 @@ impl Fifo {
         if 3 < self.sub {
             return false;
         }
-        self.hold <= 65535
+        if 65535 < self.hold {
+            return false;
+        }
+        self.is_allowed(version)
     }
 }

@@ -1,6 +1,6 @@
 -- A session's call leaves an accepted state accepted. Assumes nothing beyond the ranges that the types give.
 use mathlib.Core.Path.{_≡_, refl}
-use mathlib.Core.Bool.{true, cond}
+use mathlib.Core.Bool.{Bool, true, cond}
 use mathlib.Core.List.{List}
 use Prim.Native.Nat.{ℕ}
 use native.Mathlib.Omega.{arith}
@@ -9,7 +9,7 @@ use lib.IntN.{ℤ}
 use Rattle.num.proofs.Choice.{cond-by}
 use Rattle.tone.specs.Pcm.{isRamLength}
 use Rattle.session_lines.specs.Head.{readHead}
-use Rattle.session_lines.specs.Lines.{NumberedVoice, ReadVoice, voice, malformed, readVoice}
+use Rattle.session_lines.specs.Lines.{NumberedVoice, ReadVoice, voice, malformed, queued, readAs}
 use Rattle.session_lines.specs.declared.HeadLine.{HeadLine}
 use Rattle.session_lines.specs.declared.HeadLine.the-variants as head
 use Rattle.session_lines.proofs.Taken.{Told, read-told}
@@ -22,7 +22,7 @@ use Rattle.session.specs.declared.LineCalled.{LineCalled}
 use Rattle.session.specs.declared.LineAnswer.the-variants.{RamLength, QueueBuffer, NotAccepted, OtherLength}
 use Rattle.session.specs.Answers.{lineAnswered, stateAccepted, queuesLent, withState}
 use Rattle.session.specs.Heads.{versionCalled, headCalled, readHeadCalled}
-use Rattle.session.specs.Voices.{loadedCore, loadedChip, voiceCalled, readVoiceCalled}
+use Rattle.session.specs.Voices.{loadedCore, loadedChip, voiceCalled, voiceReadCalled}
 use Rattle.session.proofs.Loaded.{loaded-changed}
 
 -- n is the length of the RAM that the chip is played over
@@ -50,11 +50,13 @@ module _ (chip : Chip) (n : ℕ) (ok : acceptsChip chip n ≡ true) (sized : Siz
   line-kept : (r : ReadVoice) → ((v : NumberedVoice) → r ≡ voice v → Told (chip .version) v) → acceptsChip (voiceCalled chip r .chip) n ≡ true
   line-kept (voice v) f = voice-kept v (f v refl)
   line-kept (malformed field) f = ok
+  line-kept queued f = ok
 
-  pub read-voice-kept : (queues : List ℤ) (text : List ℕ) → acceptsChip (readVoiceCalled chip queues text .chip) n ≡ true
-  unfolding readVoiceCalled
-  read-voice-kept queues text =
-      let r = readVoice (chip .version) text in
+  -- also where it is read as a stored line
+  pub read-voice-kept : (stored : Bool) (queues : List ℤ) (text : List ℕ) → acceptsChip (voiceReadCalled stored chip queues text .chip) n ≡ true
+  unfolding voiceReadCalled
+  read-voice-kept stored queues text =
+      let r = readAs stored (chip .version) text in
       cond-by fine (queuesLent queues) (withState chip (voiceCalled chip r) (lineAnswered chip NotAccepted)) (lineAnswered chip QueueBuffer)
-      (λ e. cond-by fine (stateAccepted chip) (voiceCalled chip r) (lineAnswered chip NotAccepted) (λ e. line-kept r (read-told (chip .version) text)) (λ e. ok))
+      (λ e. cond-by fine (stateAccepted chip) (voiceCalled chip r) (lineAnswered chip NotAccepted) (λ e. line-kept r (read-told stored (chip .version) text)) (λ e. ok))
       (λ e. ok)

@@ -22,11 +22,11 @@ use Rattle.session_lines.specs.declared.VoiceLine.the-variants as told
 use Rattle.voices.specs.Core.{channelAt}
 use Rattle.s3w2.specs.Refusals.{acceptsChip}
 use Rattle.s3w2.specs.declared.Chip.{Chip}
-use Rattle.session.specs.declared.LineAnswer.the-variants.{Done, Malformed, OtherLength}
+use Rattle.session.specs.declared.LineAnswer.the-variants.{Done, Malformed, OtherLength, Queued}
 use Rattle.session.specs.Answers.{lineAnswered, wrote, stateAccepted, queuesLent, withState, withLentQueues, withLentRam}
 use Rattle.session.specs.Heads.{versionCalled, headCalled}
 use Rattle.session.specs.Voices.{lineOfVoice, writeVoiceAnswer, writeVoiceText, loadedChip, loadedQueues, voiceCalled, voiceQueues}
-use Rattle.session.proofs.Told.{by-voice, by-fault}
+use Rattle.session.proofs.Told.{by-voice, by-fault, by-queue}
 
 -- ---- the queue buffer, then the state
 module _ {A : Type 0} (chip : Chip) (queues : List ℤ) (done notAccepted notLent : A) where
@@ -107,3 +107,10 @@ module _ (r : ReadVoice) (field : ℕ) (e : toldOf r ≡ told.Malformed field) w
 
   pub fault-queues : (queues : List ℤ) → queues ≡ voiceQueues queues r
   fault-queues queues = by-fault (λ (x : ReadVoice). queues ≡ voiceQueues queues x) r field e refl
+
+module _ (r : ReadVoice) (e : toldOf r ≡ told.Queued) where
+  pub queue-called : (chip : Chip) → lineAnswered chip Queued ≡ voiceCalled chip r
+  queue-called chip = by-queue (λ (x : ReadVoice). lineAnswered chip Queued ≡ voiceCalled chip x) r e refl
+
+  pub queue-queues : (queues : List ℤ) → queues ≡ voiceQueues queues r
+  queue-queues queues = by-queue (λ (x : ReadVoice). queues ≡ voiceQueues queues x) r e refl

@@ -11,7 +11,7 @@ use borrow.Rule.Slice.PartMut.{putMid}
 use Rattle.sizes.specs.Sizes.{fifoCapacity, numChannels, queueBuffer, wavetablesSize}
 use Rattle.num.specs.Lists.{part}
 use Rattle.voice.specs.declared.Channel.{Channel}
-use Rattle.session_lines.specs.Lines.{ReadVoice, voice, malformed, channelAfter, tableAfter, queueAfter}
+use Rattle.session_lines.specs.Lines.{ReadVoice, voice, malformed, queued, channelAfter, tableAfter, queueAfter}
 use Rattle.voices.specs.Core.{channelAt, setChannel, setWavetables, storedChannel}
 use Rattle.voices.specs.Accepted.{SizedCore}
 use Rattle.voices.specs.Own.{Voice, voiceAt, queueAt, Changed}
@@ -26,10 +26,12 @@ use Rattle.session.specs.Voices.{tableAt, loadedCore, loadedChip, loaded
 length-table : (r : ReadVoice) (w : List ℕ) → length (tableAfter r w) ≡ length w
 length-table (voice v) w = length-sets w 0 (v .wavetable)
 length-table (malformed field) w = refl
+length-table queued w = refl
 
 length-queue : (r : ReadVoice) (q : List ℤ) → length (queueAfter r q) ≡ length q
 length-queue (voice v) q = length-sets q 0 (v .samples)
 length-queue (malformed field) q = refl
+length-queue queued q = refl
 
 long : {A : Type 0} (l : List A) (a n : ℕ) → a + n ≤ length l → length (part l a n) ≡ n
 long l a n h = simp (length-take, length-drop) (omega arith)

@@ -8,7 +8,7 @@ use Rattle.line_fields.specs.Text.{writtenNumber}
 use Rattle.line_fields.specs.declared.Written.{Written}
 use Rattle.line_fields.specs.declared.Written.the-variants.{Length, TextBuffer}
 use Rattle.session_lines.specs.Head.{headLineNumber}
-use Rattle.session_lines.specs.Lines.{ReadVoice, voice, malformed, toldOf, voiceLineNumber}
+use Rattle.session_lines.specs.Lines.{ReadVoice, voice, malformed, queued, toldOf, voiceLineNumber}
 use Rattle.session_lines.specs.declared.HeadLine.{HeadLine}
 use Rattle.session_lines.specs.declared.HeadLine.the-variants.{Version, Sized, Malformed}
 use Rattle.s3w2.specs.declared.Chip.{Chip}
@@ -39,3 +39,4 @@ head-number chip ram (Malformed field) = refl
 pub voice-number : (chip : Chip) (r : ReadVoice) → numbersOf (voiceCalled chip r .answer) ≡ voiceLineNumber (toldOf r)
 voice-number chip (voice v) = refl
 voice-number chip (malformed field) = refl
+voice-number chip queued = refl

@@ -7,7 +7,7 @@ use native.Mathlib.Omega.{arith}
 use Rattle.sizes.specs.Sizes.{numChannels}
 use Rattle.num.proofs.Choice.{never}
 use Rattle.version.specs.declared.SguVersion.{SguVersion}
-use Rattle.session_lines.specs.Lines.{NumberedVoice, ReadVoice, voice, malformed, readVoice, toldOf}
+use Rattle.session_lines.specs.Lines.{NumberedVoice, ReadVoice, voice, malformed, queued, readAs, toldOf}
 use Rattle.session_lines.specs.declared.VoiceLine.{VoiceLine}
 use Rattle.session_lines.specs.declared.VoiceLine.the-variants as told
 use Rattle.session_lines.proofs.Taken.{read-told}
@@ -16,20 +16,35 @@ use Rattle.session_lines.proofs.Taken.{read-told}
 abbrev isVoice : VoiceLine → Bool
 isVoice (told.Voice ch) = true
 isVoice (told.Malformed field) = false
+isVoice told.Queued = false
 
 abbrev numberIn : VoiceLine → ℕ
 numberIn (told.Voice ch) = ch
 numberIn (told.Malformed field) = field
+numberIn told.Queued = 0
 
--- what a reading is that tells of a voice, or of a fault
+abbrev isFault : VoiceLine → Bool
+isFault (told.Voice ch) = false
+isFault (told.Malformed field) = true
+isFault told.Queued = false
+
+-- what a reading is that tells of a voice, of a fault, or of a queue
 module _ (P : ReadVoice → Type 0) where
   pub by-voice : (r : ReadVoice) (ch : ℕ) → toldOf r ≡ told.Voice ch → ((v : NumberedVoice) → v .number ≡ ch → P (voice v)) → P r
   by-voice (voice v) ch e f = f v (ap numberIn e)
   by-voice (malformed field) ch e f = never (sym (ap isVoice e))
+  by-voice queued ch e f = never (sym (ap isVoice e))
 
   pub by-fault : (r : ReadVoice) (field : ℕ) → toldOf r ≡ told.Malformed field → P (malformed field) → P r
   by-fault (voice v) field e p = never (ap isVoice e)
   by-fault (malformed other) field e p = subst (λ (n : ℕ). P (malformed n)) (sym (ap numberIn e)) p
+  by-fault queued field e p = never (sym (ap isFault e))
 
-pub read-named : (version : SguVersion) (text : List ℕ) (ch : ℕ) → toldOf (readVoice version text) ≡ told.Voice ch → ch < numChannels
-read-named version text ch e = by-voice (λ (r : ReadVoice). readVoice version text ≡ r → ch < numChannels) (readVoice version text) ch e (λ v q i. omega (arith, q, read-told version text v i .eight)) refl
+  pub by-queue : (r : ReadVoice) → toldOf r ≡ told.Queued → P queued → P r
+  by-queue (voice v) e p = never (ap isVoice e)
+  by-queue (malformed field) e p = never (ap isFault e)
+  by-queue queued e p = p
+
+pub read-named : (stored : Bool) (version : SguVersion) (text : List ℕ) (ch : ℕ) → toldOf (readAs stored version text) ≡ told.Voice ch → ch < numChannels
+read-named stored version text ch e =
+    by-voice (λ (r : ReadVoice). readAs stored version text ≡ r → ch < numChannels) (readAs stored version text) ch e (λ v q i. omega (arith, q, read-told stored version text v i .eight)) refl

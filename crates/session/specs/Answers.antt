@@ -12,7 +12,7 @@ use Rattle.line_fields.specs.declared.Written.the-variants as line
 use Rattle.s3w2.specs.Refusals.{acceptsChip}
 use Rattle.s3w2.specs.declared.Chip.{Chip}
 use Rattle.session.specs.declared.LineAnswer.{LineAnswer}
-use Rattle.session.specs.declared.LineAnswer.the-variants.{Done, Written, RamLength, QueueBuffer, NotAccepted, TextBuffer, Malformed, OtherLength}
+use Rattle.session.specs.declared.LineAnswer.the-variants.{Done, Written, RamLength, QueueBuffer, NotAccepted, TextBuffer, Malformed, OtherLength, Queued}
 use Rattle.session.specs.declared.LineCalled.{LineCalled}
 
 -- the number of a refusal with its values; an answer that is none has none
@@ -25,6 +25,7 @@ numbersOf NotAccepted = 3 ∷ []
 numbersOf TextBuffer = 15 ∷ []
 numbersOf (Malformed field) = 16 ∷ field ∷ []
 numbersOf OtherLength = 22 ∷ []
+numbersOf Queued = 23 ∷ []
 
 abbrev pub lineAnswered : Chip → LineAnswer → LineCalled
 lineAnswered chip answer = record { chip = chip; answer = answer }

@@ -1,4 +1,5 @@
 -- A voice line written, and read.
+use mathlib.Core.Bool.{Bool, true, false}
 use mathlib.Core.List.{List}
 use Prim.Native.Nat.{ℕ, _*_}
 use lib.IntN.{ℤ}
@@ -6,14 +7,14 @@ use lib.Seq.{sets}
 use Rattle.sizes.specs.Sizes.{fifoCapacity}
 use Rattle.num.specs.Lists.{part}
 use Rattle.line_fields.specs.Text.{writtenOf, putOf}
-use Rattle.session_lines.specs.Lines.{voiceText, ReadVoice, voice, malformed, readVoice, channelAfter, tableAfter, queueAfter}
+use Rattle.session_lines.specs.Lines.{voiceText, ReadVoice, voice, malformed, queued, readAs, channelAfter, tableAfter, queueAfter}
 use Rattle.voices.specs.Core.{channelAt, setChannel, setWavetables}
 use Rattle.voices.specs.Own.{queueAt}
 use Rattle.voices.specs.declared.Core.{Core}
 use Rattle.s3w2.specs.Chips.{withCore}
 use Rattle.s3w2.specs.declared.Chip.{Chip}
 use Rattle.session.specs.declared.LineAnswer.{LineAnswer}
-use Rattle.session.specs.declared.LineAnswer.the-variants.{Done, QueueBuffer, NotAccepted, Malformed}
+use Rattle.session.specs.declared.LineAnswer.the-variants.{Done, QueueBuffer, NotAccepted, Malformed, Queued}
 use Rattle.session.specs.declared.LineCalled.{LineCalled}
 use Rattle.session.specs.Answers.{lineAnswered, wrote, withLentQueues}
 
@@ -45,18 +46,33 @@ loadedChip chip ch r = withCore chip (loadedCore (chip .core) ch r)
 unfoldable pub loadedQueues : List ℤ → ℕ → ReadVoice → List ℤ
 loadedQueues queues ch r = sets queues (ch * fifoCapacity) (queueAfter r (queueAt queues ch))
 
--- a line sets the voice that it names; a malformed one changes nothing
+-- a line sets the voice that it names; one that tells of none changes nothing
 abbrev pub voiceCalled : Chip → ReadVoice → LineCalled
 voiceCalled chip (voice v) = lineAnswered (loadedChip chip (v .number) (voice v)) Done
 voiceCalled chip (malformed field) = lineAnswered chip (Malformed field)
+voiceCalled chip queued = lineAnswered chip Queued
 
 abbrev pub voiceQueues : List ℤ → ReadVoice → List ℤ
 voiceQueues queues (voice v) = loadedQueues queues (v .number) (voice v)
 voiceQueues queues (malformed field) = queues
+voiceQueues queues queued = queues
 
-unfoldable pub readVoiceCalled : Chip → List ℤ → List ℕ → LineCalled
-readVoiceCalled chip queues text =
-    withLentQueues chip queues (voiceCalled chip (readVoice (chip .version) text)) (lineAnswered chip NotAccepted) (lineAnswered chip QueueBuffer)
+-- as a stored line or as any
+unfoldable pub voiceReadCalled : Bool → Chip → List ℤ → List ℕ → LineCalled
+voiceReadCalled stored chip queues text =
+    withLentQueues chip queues (voiceCalled chip (readAs stored (chip .version) text)) (lineAnswered chip NotAccepted) (lineAnswered chip QueueBuffer)
 
-unfoldable pub readVoiceQueues : Chip → List ℤ → List ℕ → List ℤ
-readVoiceQueues chip queues text = withLentQueues chip queues (voiceQueues queues (readVoice (chip .version) text)) queues queues
+unfoldable pub voiceReadQueues : Bool → Chip → List ℤ → List ℕ → List ℤ
+voiceReadQueues stored chip queues text = withLentQueues chip queues (voiceQueues queues (readAs stored (chip .version) text)) queues queues
+
+abbrev pub readVoiceCalled : Chip → List ℤ → List ℕ → LineCalled
+readVoiceCalled chip queues text = voiceReadCalled false chip queues text
+
+abbrev pub readVoiceQueues : Chip → List ℤ → List ℕ → List ℤ
+readVoiceQueues chip queues text = voiceReadQueues false chip queues text
+
+abbrev pub readStoredVoiceCalled : Chip → List ℤ → List ℕ → LineCalled
+readStoredVoiceCalled chip queues text = voiceReadCalled true chip queues text
+
+abbrev pub readStoredVoiceQueues : Chip → List ℤ → List ℕ → List ℤ
+readStoredVoiceQueues chip queues text = voiceReadQueues true chip queues text

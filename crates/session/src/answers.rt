@@ -44,6 +44,7 @@ impl LineAnswer {
             LineAnswer::TextBuffer => 15,
             LineAnswer::Malformed(_) => 16,
             LineAnswer::OtherLength => 22,
+            LineAnswer::Queued => 23,
         }
     }
 
@@ -60,6 +61,7 @@ impl LineAnswer {
             LineAnswer::TextBuffer => 0,
             LineAnswer::Malformed(field) => field,
             LineAnswer::OtherLength => 0,
+            LineAnswer::Queued => 0,
         }
     }
 }

@@ -7,6 +7,7 @@ mod writing;
 
 pub use heads::read_head;
 pub use heads::write_head;
+pub use reading::read_stored_voice;
 pub use reading::read_voice;
 use s3w2::Chip;
 pub use writing::write_voice;
@@ -22,6 +23,7 @@ pub enum LineAnswer {
     TextBuffer,
     Malformed(usize),
     OtherLength,
+    Queued,
 }
 
 pub struct LineCalled {

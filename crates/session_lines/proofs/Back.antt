@@ -28,7 +28,7 @@ use Rattle.ticks.specs.Oscillators.{AcceptedOscillator, FitOscillator}
 use Rattle.version.specs.declared.SguVersion.{SguVersion}
 use Rattle.stream.specs.Cache.{emptied}
 use Rattle.voice.specs.declared.Channel.{Channel}
-use Rattle.session_lines.specs.Numbers.{at, flag, entries, stateNumbers, tableNumbers, queueNumbers, fieldNumbers, queuedOf, lowByte, channelFrom, tableOf, queuedSamples}
+use Rattle.session_lines.specs.Numbers.{at, flag, entries, stateNumbers, tableNumbers, queueNumbers, fieldNumbers, queuedOf, lowByte, fifoOf, channelFrom, tableOf, queuedSamples}
 use Rattle.session_lines.specs.Lines.{voiceOf, sessionOf}
 use Rattle.session_lines.proofs.Storing.{size-table, nth-table, nth-queue, nth-queued}
 use Rattle.session_lines.proofs.Whole.{parts-of, size-states}
@@ -42,7 +42,7 @@ pub record Whole (version : SguVersion) (c : Channel) (w : List ℕ) (q : List �
   pub oscillator : FitOscillator (c .oscillator)
   pub slew : AcceptedOscillator (c .oscillator)
   pub fifo : FitFifo (c .fifo)
-  pub queue : AcceptedFifo (c .fifo)
+  pub queue : AcceptedFifo version (c .fifo)
   pub entries : FitEntries q
   pub bytes : (i : ℕ) → getD w i 0 < 256
   pub table : length w ≡ 256
@@ -120,7 +120,7 @@ entries-are g f d (x ∷ l) k (suc n) e h =
 module _ (version : SguVersion) (ch : ℕ) (c : Channel) (w : List ℕ) (q : List ℤ) (r : Whole version c w q) where
   pub count-back : at (fieldNumbers ch c w q) 281 ≡ c .fifo .count
   unfolding queueNumbers
-  count-back = in-queue ch c w q 0 ∙ least (c .fifo .count) (r .queue .full)
+  count-back = in-queue ch c w q 0 ∙ least (c .fifo .count) (r .queue .ranges .full)
     where
       least : (n : ℕ) → n ≤ fifoCapacity → min n fifoCapacity ≡ n
       least n h = omega arith
@@ -129,7 +129,7 @@ module _ (version : SguVersion) (ch : ℕ) (c : Channel) (w : List ℕ) (q : Lis
   unfolding tableOf
   table-back = entries-are lowByte (at (fieldNumbers ch c w q)) 0 w 25 256 (r .table) (λ i h. ap lowByte (in-table ch c w q i ∙ before (tableNumbers w) (queueNumbers (c .fifo) q) i (omega (arith, size-table w)) ∙ nth-table w i h) ∙ byte-back (getD w i 0) (r .bytes i))
 
-  pub samples-back : queuedSamples (at (fieldNumbers ch c w q)) ≡ queuedOf (c .fifo) q
+  pub samples-back : queuedSamples (at (fieldNumbers ch c w q)) (at (fieldNumbers ch c w q) 281) ≡ queuedOf (c .fifo) q
   unfolding queuedSamples queueNumbers
   samples-back =
       let F = at (fieldNumbers ch c w q) in
@@ -146,7 +146,7 @@ module _ (version : SguVersion) (ch : ℕ) (c : Channel) (w : List ℕ) (q : Lis
       next : (i : ℕ) → 282 + i ≡ 281 + suc i
       next i = omega arith
 
-  pub channel-back : channelFrom (at (fieldNumbers ch c w q)) ≡ sessionOf ch c w q .channel
+  pub channel-back : channelFrom (at (fieldNumbers ch c w q)) (fifoOf (at (fieldNumbers ch c w q))) ≡ sessionOf ch c w q .channel
   unfolding channelFrom fieldNumbers stateNumbers
   channel-back =
       λ i. record {
@@ -161,8 +161,8 @@ module _ (version : SguVersion) (ch : ℕ) (c : Channel) (w : List ℕ) (q : Lis
           head = 0;
           count = count-back i;
           held = sample-back (c .fifo .held) (r .fifo .sample) i;
-          hold = long-back (c .fifo .hold) (omega (arith, r .queue .frames)) i;
-          sub = byte-back (c .fifo .sub) (omega (arith, r .queue .tick)) i;
+          hold = long-back (c .fifo .hold) (omega (arith, r .queue .ranges .frames)) i;
+          sub = byte-back (c .fifo .sub) (omega (arith, r .queue .ranges .tick)) i;
           latch = byte-back (c .fifo .latch) (r .fifo .byte) i;
         };
         stream = emptied;
@@ -191,6 +191,6 @@ module _ (version : SguVersion) (ch : ℕ) (c : Channel) (w : List ℕ) (q : Lis
   unfolding fieldNumbers stateNumbers
   number-is = refl
 
-  pub fields-back : voiceOf (at (fieldNumbers ch c w q)) ≡ sessionOf ch c w q
+  pub fields-back : voiceOf (at (fieldNumbers ch c w q)) (fifoOf (at (fieldNumbers ch c w q))) ≡ sessionOf ch c w q
   unfolding voiceOf
   fields-back = λ i. record { number = number-is i; channel = channel-back i; wavetable = table-back i; samples = samples-back i }

@@ -113,8 +113,8 @@ module _ (version : SguVersion) (ch : ℕ) (c : Channel) (w : List ℕ) (q : Lis
       also bits-small (c .oscillator .«last_sample») (r .oscillator .last)
       also r .slew .slew
       also bits-small (c .fifo .held) (r .fifo .sample)
-      also r .queue .frames
-      also r .queue .tick
+      also r .queue .ranges .frames
+      also r .queue .ranges .tick
       also below _ 255 (r .fifo .byte)
       also tt)
 

@@ -1,6 +1,6 @@
 -- What is written of a voice is read back as the same voice, and tells it from others. Assumes nothing.
 use mathlib.Core.Path.{_≡_, refl, sym, ap, _∙_}
-use mathlib.Core.Bool.{Bool, cond}
+use mathlib.Core.Bool.{Bool, true, false, cond}
 use mathlib.Core.List.{List, [], _∷_, _++_, map, append-assoc}
 use Prim.Native.Nat.{ℕ, _≤_, min}
 use native.Mathlib.Omega.{arith}
@@ -10,6 +10,7 @@ use lib.ListN.{length, length-append}
 use mir.Syntax.{w16}
 use mir.Val.{ofZ}
 use Rattle.sizes.specs.Sizes.{fifoCapacity}
+use Rattle.num.proofs.Choice.{never}
 use Rattle.line_fields.specs.Table.{mostOf}
 use Rattle.line_fields.specs.Text.{lineText}
 use Rattle.line_fields.specs.Reading.{readLine}
@@ -18,9 +19,11 @@ use Rattle.line_fields.proofs.Ranges.{most-count}
 use Rattle.version.specs.Versions.{has3ws8pna}
 use Rattle.version.specs.declared.SguVersion.{SguVersion}
 use Rattle.version.specs.declared.SguVersion.the-variants.{«V3_1»}
+use Rattle.registers.specs.Queue.{QuietFifo, allowsFifo}
+use Rattle.registers.proofs.Accepted.{quiet-allowed}
 use Rattle.voice.specs.declared.Channel.{Channel}
-use Rattle.session_lines.specs.Numbers.{at, stateNumbers, tableNumbers, queueNumbers, fieldNumbers, queuedOf}
-use Rattle.session_lines.specs.Lines.{NumberedVoice, voice, voiceOf, voiceFrom, readVoice, voiceText, sessionOf}
+use Rattle.session_lines.specs.Numbers.{at, stateNumbers, tableNumbers, queueNumbers, fieldNumbers, queuedOf, fifoOf, channelFrom}
+use Rattle.session_lines.specs.Lines.{NumberedVoice, voice, queued, voiceOf, queueTold, voiceTaken, voiceFrom, readAs, readVoice, voiceText, sessionOf}
 use Rattle.session_lines.proofs.Storing.{size-table, size-queue}
 use Rattle.session_lines.proofs.Whole.{text-is, size-states}
 use Rattle.session_lines.proofs.Back.{Whole, fields-back}
@@ -39,21 +42,33 @@ unfolding fieldNumbers queueNumbers
 in-parts ch c w q h = text-is ch c w q h ∙ ap lineText (sym (append-assoc (stateNumbers ch c) (tableNumbers w) (min (c .fifo .count) fifoCapacity ∷ map (ofZ w16) (queuedOf (c .fifo) q))))
 
 -- the line is read back as the numbers that were written
-numbers-back : (version : SguVersion) (ch : ℕ) (c : Channel) (w : List ℕ) (q : List ℤ) → InRange version ch c w q → readVoice version (voiceText ch c w q) ≡ voice (voiceOf (at (fieldNumbers ch c w q)))
-unfolding readVoice fieldNumbers queueNumbers
+numbers-back : (version : SguVersion) (ch : ℕ) (c : Channel) (w : List ℕ) (q : List ℤ) → InRange version ch c w q
+    → readVoice version (voiceText ch c w q) ≡ voiceTaken version (at (fieldNumbers ch c w q)) (fifoOf (at (fieldNumbers ch c w q)))
+unfolding readAs queueTold fieldNumbers queueNumbers
 numbers-back version ch c w q r =
     let fifo = has3ws8pna version in
     let S = stateNumbers ch c in
     let T = tableNumbers w in
     let n = min (c .fifo .count) fifoCapacity in
     let Q = map (ofZ w16) (queuedOf (c .fifo) q) in
-    ap (λ (t : List ℕ). voiceFrom (readLine fifo t)) (in-parts ch c w q (r .voice))
-    ∙ ap voiceFrom (trip fifo (S ++ T) n Q (size-first ch c w) (size-queue q (c .fifo .head) n) (r .first) (count-most fifo (c .fifo .count)) (r .samples))
-    ∙ ap (λ (l : List ℕ). voice (voiceOf (at l))) (append-assoc S T (n ∷ Q))
+    ap (λ (t : List ℕ). voiceFrom false version (readLine fifo t)) (in-parts ch c w q (r .voice))
+    ∙ ap (voiceFrom false version) (trip fifo (S ++ T) n Q (size-first ch c w) (size-queue q (c .fifo .head) n) (r .first) (count-most fifo (c .fifo .count)) (r .samples))
+    ∙ ap (λ (l : List ℕ). voiceTaken version (at l) (fifoOf (at l))) (append-assoc S T (n ∷ Q))
+
+-- a queue that the version has is taken
+taken-is : (version : SguVersion) (v : NumberedVoice) → (has3ws8pna version ≡ false → QuietFifo (v .channel .fifo)) → cond (allowsFifo version (v .channel .fifo)) (voice v) queued ≡ voice v
+taken-is version v quiet = ap (λ (b : Bool). cond b (voice v) queued) (quiet-allowed version (v .channel .fifo) quiet)
+
+numbers-taken : (version : SguVersion) (f : ℕ → ℕ) (v : NumberedVoice) → voiceOf f (fifoOf f) ≡ v → voiceTaken version f (fifoOf f) ≡ cond (allowsFifo version (v .channel .fifo)) (voice v) queued
+unfolding voiceOf channelFrom
+numbers-taken version f v e = ap (λ (x : NumberedVoice). cond (allowsFifo version (x .channel .fifo)) (voice x) queued) e
 
 -- THE ROUND TRIP of a voice: an accepted, fitting voice is read back as its session's fields
 pub voice-back : (version : SguVersion) (ch : ℕ) (c : Channel) (w : List ℕ) (q : List ℤ) → ch ≤ 7 → Whole version c w q → readVoice version (voiceText ch c w q) ≡ voice (sessionOf ch c w q)
-voice-back version ch c w q h r = numbers-back version ch c w q (inside version ch c w q h r) ∙ ap voice (fields-back version ch c w q r)
+voice-back version ch c w q h r =
+    numbers-back version ch c w q (inside version ch c w q h r)
+    ∙ numbers-taken version (at (fieldNumbers ch c w q)) (sessionOf ch c w q) (fields-back version ch c w q r)
+    ∙ taken-is version (sessionOf ch c w q) (λ e. let z = r .queue .quiet e in record { held = z .held; hold = z .hold; sub = z .sub; latch = z .latch; count = z .count })
 
 -- ---- two voices have the same text exactly when they have the same session's fields
 
@@ -78,7 +93,7 @@ under-newest r = record {
   oscillator = r .oscillator;
   slew = r .slew;
   fifo = r .fifo;
-  queue = r .queue;
+  queue = record { ranges = r .queue .ranges; quiet = λ e. never e };
   entries = r .entries;
   bytes = r .bytes;
   table = r .table;

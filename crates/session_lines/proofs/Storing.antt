@@ -132,10 +132,10 @@ pub nth-read-table : (f : ℕ → ℕ) (i : ℕ) → i < 256 → getD (tableOf f
 unfolding tableOf
 nth-read-table f i h = nth-map lowByte (entries f 25 256) i 0 0 (omega (arith, size-entries f 25 256)) ∙ ap lowByte (nth-entries f 25 256 i h)
 
-pub size-samples : (f : ℕ → ℕ) → length (queuedSamples f) ≡ f 281
+pub size-samples : (f : ℕ → ℕ) (n : ℕ) → length (queuedSamples f n) ≡ n
 unfolding queuedSamples
-size-samples f = length-map (entries f 282 (f 281)) sampleOfNumber ∙ size-entries f 282 (f 281)
+size-samples f n = length-map (entries f 282 n) sampleOfNumber ∙ size-entries f 282 n
 
-pub nth-samples : (f : ℕ → ℕ) (i : ℕ) → i < f 281 → getD (queuedSamples f) i (pos 0) ≡ sampleOfNumber (f (282 + i))
+pub nth-samples : (f : ℕ → ℕ) (n i : ℕ) → i < n → getD (queuedSamples f n) i (pos 0) ≡ sampleOfNumber (f (282 + i))
 unfolding queuedSamples
-nth-samples f i h = nth-map sampleOfNumber (entries f 282 (f 281)) i 0 (pos 0) (omega (arith, size-entries f 282 (f 281))) ∙ ap sampleOfNumber (nth-entries f 282 (f 281) i h)
+nth-samples f n i h = nth-map sampleOfNumber (entries f 282 n) i 0 (pos 0) (omega (arith, size-entries f 282 n)) ∙ ap sampleOfNumber (nth-entries f 282 n i h)

@@ -1,6 +1,6 @@
 -- A voice's numbers in a buffer of zeros: put there by the writer, taken from there by the reader. Assumes nothing.
-use mathlib.Core.Path.{_≡_, refl, sym, ap, _∙_}
-use mathlib.Core.Bool.{Bool}
+use mathlib.Core.Path.{_≡_, refl, sym, ap, _∙_, subst}
+use mathlib.Core.Bool.{Bool, true, false, cond}
 use mathlib.Core.List.{List, [], _∷_, _++_}
 use Prim.Native.Nat.{ℕ, zero, suc, _+_, _≤_, _<_, min}
 use native.Mathlib.Omega.{arith}
@@ -17,10 +17,12 @@ use Rattle.line_fields.specs.declared.Written.{Written}
 use Rattle.line_fields.specs.declared.Written.the-variants.{Length}
 use Rattle.line_fields.proofs.Good.{read-good}
 use Rattle.version.specs.Versions.{has3ws8pna}
+use Rattle.registers.specs.Queue.{allowsFifo}
+use Rattle.registers.specs.declared.Fifo.{Fifo}
 use Rattle.version.specs.declared.SguVersion.{SguVersion}
 use Rattle.voice.specs.declared.Channel.{Channel}
 use Rattle.session_lines.specs.Numbers.{at, stateNumbers, tableNumbers, queueNumbers, fieldNumbers, channelFrom, tableOf, queuedSamples}
-use Rattle.session_lines.specs.Lines.{ReadVoice, voice, voiceOf, voiceFrom, readVoice, voiceText, toldOf, channelAfter, tableAfter, queueAfter}
+use Rattle.session_lines.specs.Lines.{ReadVoice, voice, voiceOf, queueTold, voiceTaken, voiceFrom, readAs, voiceText, toldOf, channelAfter, tableAfter, queueAfter}
 use Rattle.session_lines.specs.Lines as lines
 use Rattle.session_lines.specs.declared.VoiceLine.the-variants as told
 use Rattle.session_lines.proofs.Storing.{size-table, size-queue}
@@ -43,35 +45,62 @@ found m ns h k =
     ∙ before-zeros ns (drop (0 + length ns) (replicate m 0)) (λ j. getD-drop (0 + length ns) (replicate m 0) j 0 ∙ zero-at m (0 + length ns + j)) k
 
 -- ---- read
-pub read-yes : (version : SguVersion) (text : List ℕ) (fifo : Bool) (count : ℕ) (buffer : List ℕ) → fifo ≡ has3ws8pna version → Count count ≡ fieldsOf (readLine fifo text) → buffer ≡ sets (replicate 2330 0) 0 (lineNumbers (readLine fifo text)) → readVoice version text ≡ voice (voiceOf (at buffer))
-unfolding readVoice
-read-yes version text fifo count buffer e f g = ap (λ (b : Bool). voiceFrom (readLine b text)) (sym e) ∙ go (readLine fifo text) refl
-  where
-    go : (r : ReadLine) → readLine fifo text ≡ r → voiceFrom (readLine fifo text) ≡ voice (voiceOf (at buffer))
-    go (line ns) q =
-        let there : buffer ≡ sets (replicate 2330 0) 0 ns = g ∙ ap (λ (r : ReadLine). sets (replicate 2330 0) 0 (lineNumbers r)) q in
-        let same : (k : ℕ) → at ns k ≡ at buffer k = λ k. sym (ap (λ (l : List ℕ). at l k) there ∙ found 2330 ns (read-good fifo text ns q .size) k) in
-        ap voiceFrom q ∙ (λ i. voice (voiceOf (λ k. same k i)))
-    go (malformed ns field) q = let z : Count count ≡ Malformed field = f ∙ ap fieldsOf q in (cc)
+module _ (stored : Bool) (version : SguVersion) where
+  -- the voice that numbers tell
+  abbrev pub by : (ℕ → ℕ) → ReadVoice
+  by f = voiceTaken version f (queueTold stored version f)
 
-pub read-no : (version : SguVersion) (text : List ℕ) (fifo : Bool) (field : ℕ) → fifo ≡ has3ws8pna version → Malformed field ≡ fieldsOf (readLine fifo text) → readVoice version text ≡ lines.malformed field
-unfolding readVoice
-read-no version text fifo field e f = ap (λ (b : Bool). voiceFrom (readLine b text)) (sym e) ∙ go (readLine fifo text) refl
-  where
-    go : (r : ReadLine) → readLine fifo text ≡ r → voiceFrom (readLine fifo text) ≡ lines.malformed field
-    go (line ns) q = let z : Malformed field ≡ Count (length ns) = f ∙ ap fieldsOf q in (cc)
-    go (malformed ns other) q = let z : Malformed field ≡ Malformed other = f ∙ ap fieldsOf q in let w : lines.malformed other ≡ lines.malformed field = cc in ap voiceFrom q ∙ w
+  pub read-yes : (text : List ℕ) (fifo : Bool) (count : ℕ) (buffer : List ℕ) → fifo ≡ has3ws8pna version → Count count ≡ fieldsOf (readLine fifo text) → buffer ≡ sets (replicate 2330 0) 0 (lineNumbers (readLine fifo text)) → readAs stored version text ≡ by (at buffer)
+  unfolding readAs
+  read-yes text fifo count buffer e f g = ap (λ (b : Bool). voiceFrom stored version (readLine b text)) (sym e) ∙ go (readLine fifo text) refl
+    where
+      go : (r : ReadLine) → readLine fifo text ≡ r → voiceFrom stored version (readLine fifo text) ≡ by (at buffer)
+      go (line ns) q =
+          let there : buffer ≡ sets (replicate 2330 0) 0 ns = g ∙ ap (λ (r : ReadLine). sets (replicate 2330 0) 0 (lineNumbers r)) q in
+          let same : (k : ℕ) → at ns k ≡ at buffer k = λ k. sym (ap (λ (l : List ℕ). at l k) there ∙ found 2330 ns (read-good fifo text ns q .size) k) in
+          ap (voiceFrom stored version) q ∙ (λ i. by (λ k. same k i))
+      go (malformed ns field) q = let z : Count count ≡ Malformed field = f ∙ ap fieldsOf q in (cc)
 
-pub told-yes : (r : ReadVoice) (f : ℕ → ℕ) (n : ℕ) → r ≡ voice (voiceOf f) → n ≡ f 0 → told.Voice n ≡ toldOf r
-unfolding voiceOf
-told-yes r f n e h = ap told.Voice h ∙ ap toldOf (sym e)
+  pub read-no : (text : List ℕ) (fifo : Bool) (field : ℕ) → fifo ≡ has3ws8pna version → Malformed field ≡ fieldsOf (readLine fifo text) → readAs stored version text ≡ lines.malformed field
+  unfolding readAs
+  read-no text fifo field e f = ap (λ (b : Bool). voiceFrom stored version (readLine b text)) (sym e) ∙ go (readLine fifo text) refl
+    where
+      go : (r : ReadLine) → readLine fifo text ≡ r → voiceFrom stored version (readLine fifo text) ≡ lines.malformed field
+      go (line ns) q = let z : Malformed field ≡ Count (length ns) = f ∙ ap fieldsOf q in (cc)
+      go (malformed ns other) q = let z : Malformed field ≡ Malformed other = f ∙ ap fieldsOf q in let w : lines.malformed other ≡ lines.malformed field = cc in ap (voiceFrom stored version) q ∙ w
 
-pub after-yes : (r : ReadVoice) (f : ℕ → ℕ) (c d : Channel) (w v : List ℕ) (q p : List ℤ) → r ≡ voice (voiceOf f) → d ≡ channelFrom f → v ≡ sets w 0 (tableOf f) → p ≡ sets q 0 (queuedSamples f) → (d ≡ channelAfter r c) × ((v ≡ tableAfter r w) × (p ≡ queueAfter r q))
-unfolding voiceOf
-after-yes r f c d w v q p e x y z = (x ∙ ap (λ (s : ReadVoice). channelAfter s c) (sym e), (y ∙ ap (λ (s : ReadVoice). tableAfter s w) (sym e), z ∙ ap (λ (s : ReadVoice). queueAfter s q) (sym e)))
+  module _ (f : ℕ → ℕ) (queue : Fifo) (q : queue ≡ queueTold stored version f) where
+    not-allowed : allowsFifo version queue ≡ false → by f ≡ lines.queued
+    not-allowed e = ap (λ (b : Bool). cond b (voice (voiceOf f (queueTold stored version f))) lines.queued) (ap (allowsFifo version) (sym q) ∙ e)
+
+    allowed : allowsFifo version queue ≡ true → by f ≡ voice (voiceOf f queue)
+    allowed e =
+        ap (λ (b : Bool). cond b (voice (voiceOf f (queueTold stored version f))) lines.queued) (ap (allowsFifo version) (sym q) ∙ e)
+        ∙ ap (λ (g : Fifo). voice (voiceOf f g)) (sym q)
+
+    pub told-queued : allowsFifo version queue ≡ false → told.Queued ≡ toldOf (by f)
+    told-queued e = sym (ap toldOf (not-allowed e))
+
+    pub told-yes : (n : ℕ) → allowsFifo version queue ≡ true → n ≡ f 0 → told.Voice n ≡ toldOf (by f)
+    unfolding voiceOf
+    told-yes n e h = ap told.Voice h ∙ ap toldOf (sym (allowed e))
+
+    pub after-queued : (c : Channel) (w : List ℕ) (l : List ℤ) → allowsFifo version queue ≡ false → (c ≡ channelAfter (by f) c) × ((w ≡ tableAfter (by f) w) × (l ≡ queueAfter (by f) l))
+    after-queued c w l e = let z = sym (not-allowed e) in (ap (λ (s : ReadVoice). channelAfter s c) z, (ap (λ (s : ReadVoice). tableAfter s w) z, ap (λ (s : ReadVoice). queueAfter s l) z))
+
+    pub after-yes : (c d : Channel) (w v : List ℕ) (l p : List ℤ) → allowsFifo version queue ≡ true → d ≡ channelFrom f queue → v ≡ sets w 0 (tableOf f) → p ≡ sets l 0 (queuedSamples f (queue .count))
+        → (d ≡ channelAfter (by f) c) × ((v ≡ tableAfter (by f) w) × (p ≡ queueAfter (by f) l))
+    unfolding voiceOf
+    after-yes c d w v l p e x y z =
+        let r = sym (allowed e) in
+        (x ∙ ap (λ (s : ReadVoice). channelAfter s c) r, (y ∙ ap (λ (s : ReadVoice). tableAfter s w) r, z ∙ ap (λ (s : ReadVoice). queueAfter s l) r))
+
+-- what is left is by what a line's reading is
+pub after-same : (r s : ReadVoice) (c d : Channel) (w v : List ℕ) (l p : List ℤ) → r ≡ s → (d ≡ channelAfter s c) × ((v ≡ tableAfter s w) × (p ≡ queueAfter s l)) → (d ≡ channelAfter r c) × ((v ≡ tableAfter r w) × (p ≡ queueAfter r l))
+after-same r s c d w v l p e x = subst (λ (t : ReadVoice). (d ≡ channelAfter t c) × ((v ≡ tableAfter t w) × (p ≡ queueAfter t l))) (sym e) x
 
 pub after-no : (r : ReadVoice) (field : ℕ) (c : Channel) (w : List ℕ) (q : List ℤ) → r ≡ lines.malformed field → (c ≡ channelAfter r c) × ((w ≡ tableAfter r w) × (q ≡ queueAfter r q))
-after-no r field c w q e = (ap (λ (s : ReadVoice). channelAfter s c) (sym e), (ap (λ (s : ReadVoice). tableAfter s w) (sym e), ap (λ (s : ReadVoice). queueAfter s q) (sym e)))
+after-no r field c w q e = after-same r (lines.malformed field) c c w w q q e (refl, (refl, refl))
 
 -- ---- written
 pub size-states : (ch : ℕ) (c : Channel) → length (stateNumbers ch c) ≡ 25

@@ -131,12 +131,13 @@ fifoOf f = record {
   latch = lowByte (f 24);
 }
 
--- the cache is empty
-unfoldable pub channelFrom : (ℕ → ℕ) → Channel
-channelFrom f = record { oscillator = oscillatorOf f; fifo = fifoOf f; stream = emptied; pcm = pcmOf f; registers = registersOf f }
+-- with a queue; the cache is empty
+unfoldable pub channelFrom : (ℕ → ℕ) → Fifo → Channel
+channelFrom f queue = record { oscillator = oscillatorOf f; fifo = queue; stream = emptied; pcm = pcmOf f; registers = registersOf f }
 
 unfoldable pub tableOf : (ℕ → ℕ) → List ℕ
 tableOf f = map lowByte (entries f states 256)
 
-unfoldable pub queuedSamples : (ℕ → ℕ) → List ℤ
-queuedSamples f = map sampleOfNumber (entries f fixed (f counted))
+-- the first n of them
+unfoldable pub queuedSamples : (ℕ → ℕ) → ℕ → List ℤ
+queuedSamples f n = map sampleOfNumber (entries f fixed n)

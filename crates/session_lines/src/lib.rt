@@ -11,10 +11,12 @@ pub use reading::read_voice;
 use version::SguVersion;
 pub use writing::write_voice;
 
-// What a voice line is: that of a voice, or malformed at a field, counted from 1.
+// What a voice line is: that of a voice, or malformed at a field, counted from 1, or that of a voice with something in its
+// queue on a chip without a FIFO.
 pub enum VoiceLine {
     Voice(usize),
     Malformed(usize),
+    Queued,
 }
 
 // What a head is: a version, or a version and the length of the RAM, or malformed at a field.

@@ -124,7 +124,7 @@ fn oscillator_of(numbers: &[u64]) -> Oscillator
 }
 
 // The queue's head is at 0.
-fn fifo_of(numbers: &[u64]) -> Fifo
+pub(crate) fn fifo_of(numbers: &[u64]) -> Fifo
     ensures { λ r. ⌜ r ≡ fifoOf (at (now (numbers .entry))) ⌝ }
 {
     Fifo {
@@ -137,13 +137,13 @@ fn fifo_of(numbers: &[u64]) -> Fifo
     }
 }
 
-// The cache is empty.
-pub(crate) fn channel_of(numbers: &[u64]) -> Channel
-    ensures { λ r. ⌜ r ≡ channelFrom (at (now (numbers .entry))) ⌝ }
+// With a queue; the cache is empty.
+pub(crate) fn channel_of(numbers: &[u64], queue: Fifo) -> Channel
+    ensures { λ r. ⌜ r ≡ channelFrom (at (now (numbers .entry))) queue ⌝ }
 {
     Channel {
         oscillator: oscillator_of(numbers),
-        fifo: fifo_of(numbers),
+        fifo: queue,
         stream: StreamCache::empty(),
         pcm: pcm_of(numbers),
         registers: registers_of(numbers),

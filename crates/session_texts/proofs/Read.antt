@@ -1,6 +1,7 @@
 -- What a line's reading makes of a voice is what its fields make of it; what a session's lines promise. Assumes nothing.
 use mathlib.Core.Path.{_≡_, refl, sym, ap, _∙_}
-use mathlib.Core.List.{List}
+use mathlib.Core.Bool.{Bool, true, false}
+use mathlib.Core.List.{List, [], _∷_}
 use Prim.Native.Nat.{ℕ, _≤_, _<_}
 use native.Mathlib.Omega.{arith}
 use lib.IntN.{ℤ}
@@ -10,13 +11,12 @@ use Rattle.sizes.specs.Sizes.{fifoCapacity}
 use Rattle.version.specs.declared.SguVersion.{SguVersion}
 use Rattle.ticks.proofs.Ranges.{accepted-oscillator, oscillator-accepted}
 use Rattle.voice.specs.declared.Channel.{Channel}
-use Rattle.session_lines.specs.Numbers.{channelFrom}
-use Rattle.session_lines.specs.Lines.{NumberedVoice, sessionOf, ReadVoice, voice, malformed, voiceOf, readVoice, channelAfter, tableAfter, queueAfter}
+use Rattle.session_lines.specs.Lines.{NumberedVoice, sessionOf, ReadVoice, voice, malformed, queued, readAs, readVoice, readStored, channelAfter, tableAfter, queueAfter}
 use Rattle.session_lines.proofs.Heads.{head-back}
-use Rattle.session_lines.proofs.Storing.{size-samples}
 use Rattle.session_lines.proofs.Back.{Whole}
 use Rattle.session_lines.proofs.Session.{voice-back}
 use Rattle.session_lines.proofs.Taken.{read-told}
+use Rattle.session_lines.proofs.Taken as taken
 use Rattle.slots.specs.Slots.{Slot, channelWith, slotLoaded}
 use Rattle.plain_chip.specs.Voices.{PlainVoice}
 use Rattle.plain_chip.specs.Good.{FitVoice}
@@ -26,22 +26,32 @@ use Rattle.session_texts.specs.Session.{plainVoiceOf, voiceRead, headRea
 use Rattle.session_texts.proofs.Written.{own-line}
 
 -- ---- the channel that is read has its fields, an empty cache and the queue's head at 0
-pub channel-told : (f : ℕ → ℕ) → voiceOf f .channel ≡ channelWith (plainVoiceOf (voiceOf f))
-unfolding voiceOf channelFrom
-channel-told f =
-    ap (λ (n : ℕ). record { oscillator = channelFrom f .oscillator; fifo = record { head = 0; count = n; held = channelFrom f .fifo .held; hold = channelFrom f .fifo .hold; sub = channelFrom f .fifo .sub; latch = channelFrom f .fifo .latch }; stream = channelFrom f .stream; pcm = channelFrom f .pcm; registers = channelFrom f .registers }) (sym (size-samples f))
+pub channel-told : (version : SguVersion) (v : NumberedVoice) → taken.Told version v → v .channel ≡ channelWith (plainVoiceOf v)
+channel-told version v t =
+    let c = v .channel in
+    λ i. record {
+      oscillator = c .oscillator;
+      fifo = record { head = t .first i; count = sym (t .many) i; held = c .fifo .held; hold = c .fifo .hold; sub = c .fifo .sub; latch = c .fifo .latch };
+      stream = t .cache i;
+      pcm = c .pcm;
+      registers = c .registers;
+    }
 
 -- a voice whose line is read: its channel, wavetable and entries are those of its fields
-pub loaded-told : (f : ℕ → ℕ) (s : Slot)
-    → _≡_ {A = Slot} (record { channel = channelAfter (voice (voiceOf f)) (s .channel); fragments = s .fragments; wavetable = tableAfter (voice (voiceOf f)) (s .wavetable); queue = queueAfter (voice (voiceOf f)) (s .queue) }) (slotLoaded (plainVoiceOf (voiceOf f)) s)
+pub loaded-told : (v : NumberedVoice) (s : Slot) → v .channel ≡ channelWith (plainVoiceOf v)
+    → _≡_ {A = Slot} (record { channel = channelAfter (voice v) (s .channel); fragments = s .fragments; wavetable = tableAfter (voice v) (s .wavetable); queue = queueAfter (voice v) (s .queue) }) (slotLoaded (plainVoiceOf v) s)
 unfolding slotLoaded
-loaded-told f s = ap (λ (c : Channel). record { channel = c; fragments = s .fragments; wavetable = sets (s .wavetable) 0 (voiceOf f .wavetable); queue = sets (s .queue) 0 (voiceOf f .samples) }) (channel-told f)
+loaded-told v s e = ap (λ (c : Channel). record { channel = c; fragments = s .fragments; wavetable = sets (s .wavetable) 0 (v .wavetable); queue = sets (s .queue) 0 (v .samples) }) e
 
 -- ---- the fields of a voice that is made of fields
 fields-back : (ch : ℕ) (v : PlainVoice) → length (v .queue .samples) ≤ fifoCapacity → plainVoiceOf (sessionOf ch (channelWith v) (v .wavetable) (v .queue .samples)) ≡ v
 fields-back ch v h = ap (λ (l : List ℤ). record { registers = v .registers; pcm = v .pcm; oscillator = v .oscillator; queue = record { samples = l; held = v .queue .held; hold = v .queue .hold; sub = v .queue .sub; latch = v .queue .latch }; wavetable = v .wavetable }) (own-line v h)
 
 -- ---- a line tells of one of the eight voices, its fields in their ranges
+none : (l : List ℤ) → length l ≡ 0 → l ≡ []
+none [] n = refl
+none (x ∷ l) n = absurd (omega arith)
+
 whole-fields : (version : SguVersion) (v : NumberedVoice) → Whole version (v .channel) (v .wavetable) (v .samples) → length (v .samples) ≡ v .channel .fifo .count → FitVoice version (plainVoiceOf v)
 whole-fields version v w many = record {
   registers = w .accepted;
@@ -50,12 +60,13 @@ whole-fields version v w many = record {
   fitRegisters = w .registers;
   fitPcm = w .pcm;
   fitOscillator = w .oscillator;
-  full = omega (arith, many, w .queue .full);
+  full = omega (arith, many, w .queue .ranges .full);
   samples = w .entries;
   held = w .fifo .sample;
-  frames = w .queue .frames;
-  tick = w .queue .tick;
+  frames = w .queue .ranges .frames;
+  tick = w .queue .ranges .tick;
   latch = w .fifo .byte;
+  quiet = λ e. let q = w .queue .quiet e in record { samples = none (v .samples) (many ∙ q .count); held = q .held; hold = q .hold; sub = q .sub; latch = q .latch };
   table = w .table;
   bytes = record { each = w .bytes };
 }
@@ -69,23 +80,25 @@ fields-whole version v f = record {
   oscillator = f .fitOscillator;
   slew = accepted-oscillator (v .oscillator) (f .oscillator);
   fifo = record { sample = f .held; byte = f .latch };
-  queue = record { full = f .full; first = omega arith; tick = f .tick; frames = f .frames };
+  queue = record { ranges = record { full = f .full; first = omega arith; tick = f .tick; frames = f .frames }; quiet = λ e. let q = f .quiet e in record { held = q .held; hold = q .hold; sub = q .sub; latch = q .latch; count = ap length (q .samples) } };
   entries = f .samples;
   bytes = f .bytes .each;
   table = f .table;
 }
 
-ranges : (version : SguVersion) (text : List ℕ) (v : NumberedVoice) → readVoice version text ≡ voice v → (v .number < 8) × FitVoice version (plainVoiceOf v)
-ranges version text v e = let t = read-told version text v e in (omega (arith, t .eight), whole-fields version v (t .whole) (t .many))
+ranges : (stored : Bool) (version : SguVersion) (text : List ℕ) (v : NumberedVoice) → readAs stored version text ≡ voice v → (v .number < 8) × FitVoice version (plainVoiceOf v)
+ranges stored version text v e = let t = read-told stored version text v e in (omega (arith, t .eight), whole-fields version v (t .whole) (t .many))
 
 -- ---- what a session's lines promise
 pub session-is-ok : TextsOk session
 session-is-ok = record {
   head-back = λ version size allowed. ap headRead (head-back version size allowed);
-  told = λ version text. go version (readVoice version text) (ranges version text);
+  told = λ version text. go version (readVoice version text) (ranges false version text);
+  stored-told = λ version text. go version (readStored version text) (ranges true version text);
   voice-back = λ version ch v h fit. ap voiceRead (voice-back version ch (channelWith v) (v .wavetable) (v .queue .samples) (omega arith) (fields-whole version v fit)) ∙ ap (texts.voice ch) (fields-back ch v (fit .full));
 }
   where
     go : (version : SguVersion) (r : ReadVoice) → ((v : NumberedVoice) → r ≡ voice v → (v .number < 8) × FitVoice version (plainVoiceOf v)) → Told version (voiceRead r)
     go version (voice v) h = h v refl
     go version (malformed field) h = tt
+    go version queued h = tt

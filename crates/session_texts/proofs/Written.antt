@@ -33,7 +33,7 @@ module _ (version : SguVersion) (ram : List ℕ) (s : Slot) (ok : SlotOk version
 
   told-line : queuedOf (s .channel .fifo) (s .queue) ≡ queue
   told-line =
-      let e : min (s .channel .fifo .count) fifoCapacity ≡ s .channel .fifo .count = omega (arith, ok .accepted .fifo .full) in
+      let e : min (s .channel .fifo .count) fifoCapacity ≡ s .channel .fifo .count = omega (arith, ok .accepted .fifo .ranges .full) in
       ap (queued (s .queue) (s .channel .fifo .head)) e
 
   long : length queue ≡ s .channel .fifo .count
@@ -42,7 +42,7 @@ module _ (version : SguVersion) (ram : List ℕ) (s : Slot) (ok : SlotOk version
   fields-same : (ch : ℕ) → sessionOf ch (s .channel) (s .wavetable) (s .queue) ≡ sessionOf ch (channelWith (plainOf s)) (s .wavetable) queue
   fields-same ch =
       ap₂ (λ (n : ℕ) (l : List ℤ). record { number = ch; channel = setStream (setFifo (s .channel) (setCount (atStart (s .channel .fifo)) n)) emptied; wavetable = s .wavetable; samples = l })
-      (sym long) (told-line ∙ sym (own-line (plainOf s) (omega (arith, long, ok .accepted .fifo .full))))
+      (sym long) (told-line ∙ sym (own-line (plainOf s) (omega (arith, long, ok .accepted .fifo .ranges .full))))
 
   pub text-plain : (ch : ℕ) → voiceText ch (s .channel) (s .wavetable) (s .queue) ≡ plainText ch (plainOf s)
   text-plain ch = same-text ch ch (s .channel) (channelWith (plainOf s)) (s .wavetable) (s .wavetable) (s .queue) queue (fields-same ch)

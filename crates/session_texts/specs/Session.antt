@@ -2,7 +2,7 @@
 use mathlib.Core.List.{List}
 use Prim.Native.Nat.{ℕ}
 use Rattle.session_lines.specs.Head as heads
-use Rattle.session_lines.specs.Lines.{NumberedVoice, voiceText, ReadVoice, voice, malformed, readVoice}
+use Rattle.session_lines.specs.Lines.{NumberedVoice, voiceText, ReadVoice, voice, malformed, queued, readVoice, readStored}
 use Rattle.session_lines.specs.declared.HeadLine.{HeadLine}
 use Rattle.session_lines.specs.declared.HeadLine.the-variants.{Version, Sized, Malformed}
 use Rattle.plain_chip.specs.Voices.{PlainVoice}
@@ -27,6 +27,7 @@ plainText ch v = voiceText ch (channelWith v) (v .wavetable) (v .queue .samples)
 abbrev pub voiceRead : ReadVoice → VoiceRead
 voiceRead (voice v) = texts.voice (v .number) (plainVoiceOf v)
 voiceRead (malformed field) = VoiceRead.faulty field
+voiceRead queued = VoiceRead.queued
 
 abbrev pub headRead : HeadLine → HeadRead
 headRead (Version version) = texts.head version
@@ -39,4 +40,5 @@ session = record {
   readHead = λ text. headRead (heads.readHead text);
   voiceText = plainText;
   readVoice = λ version text. voiceRead (readVoice version text);
+  readStored = λ version text. voiceRead (readStored version text);
 }

@@ -59,7 +59,7 @@ unfolding slotLoaded acceptsStream
 ok-loaded version ram v s f long table room entries =
     let w : sets (s .wavetable) 0 (v .wavetable) ≡ v .wavetable = put-whole (s .wavetable) (v .wavetable) (f .table ∙ sym table) in
     record {
-      accepted = record { registers = f .registers; pcm = f .pcm; oscillator = f .oscillator; fifo = record { full = f .full; first = omega arith; tick = f .tick; frames = f .frames }; stream = refl };
+      accepted = record { registers = f .registers; pcm = f .pcm; oscillator = f .oscillator; fifo = record { ranges = record { full = f .full; first = omega arith; tick = f .tick; frames = f .frames }; quiet = λ e. let q = f .quiet e in record { held = q .held; hold = q .hold; sub = q .sub; latch = q .latch; count = ap length (q .samples) } }; stream = refl };
       coherent = coherent-none version ram (channelWith v) (s .fragments) refl long;
       fits = record { registers = f .fitRegisters; pcm = f .fitPcm; oscillator = f .fitOscillator; fifo = record { sample = f .held; byte = f .latch } };
       table = ap length w ∙ f .table;
@@ -81,6 +81,10 @@ unfolding queued
 queued-fits q h zero f = record { each = λ i. fit w16 _ (omega arith) (omega arith) }
 queued-fits q h (suc n) f = cons-fits (getD q (h % fifoCapacity) (pos 0)) (queued q (h + 1) n) (f .each (h % fifoCapacity)) (queued-fits q (h + 1) n f)
 
+queued-none : (q : List ℤ) (h n : ℕ) → n ≡ 0 → queued q h n ≡ []
+unfolding queued
+queued-none q h n e = ap (queued q h) e
+
 pub fit-plain : (version : SguVersion) (ram : List ℕ) (s : Slot) → SlotOk version ram s → FitVoice version (plainOf s)
 fit-plain version ram s ok = record {
   registers = ok .accepted .registers;
@@ -89,12 +93,13 @@ fit-plain version ram s ok = record {
   fitRegisters = ok .fits .registers;
   fitPcm = ok .fits .pcm;
   fitOscillator = ok .fits .oscillator;
-  full = let e = length-queued (s .queue) (s .channel .fifo .head) (s .channel .fifo .count) in omega (arith, e, ok .accepted .fifo .full);
+  full = let e = length-queued (s .queue) (s .channel .fifo .head) (s .channel .fifo .count) in omega (arith, e, ok .accepted .fifo .ranges .full);
   samples = queued-fits (s .queue) (s .channel .fifo .head) (s .channel .fifo .count) (ok .entries);
   held = ok .fits .fifo .sample;
-  frames = ok .accepted .fifo .frames;
-  tick = ok .accepted .fifo .tick;
+  frames = ok .accepted .fifo .ranges .frames;
+  tick = ok .accepted .fifo .ranges .tick;
   latch = ok .fits .fifo .byte;
+  quiet = λ e. let q = ok .accepted .fifo .quiet e in record { samples = queued-none (s .queue) (s .channel .fifo .head) (s .channel .fifo .count) (q .count); held = q .held; hold = q .hold; sub = q .sub; latch = q .latch };
   table = ok .table;
   bytes = ok .bytes;
 }

@@ -20,7 +20,7 @@ use Rattle.registers.specs.PlainQueue.{PlainQueue, plainTicked}
 use Rattle.registers.specs.declared.PcmRegisters.{PcmRegisters}
 use Rattle.registers.specs.declared.WaveformType.{WaveformType}
 use Rattle.registers.specs.declared.WaveformType.the-variants as waveforms
-use Rattle.registers.proofs.Accepted.{tick-accepted, active-accepted}
+use Rattle.registers.proofs.Accepted.{with-fifo, tick-ranged, active-accepted}
 use Rattle.registers.proofs.Ranges.{tick-fits}
 use Rattle.registers.proofs.Ring.{line-ticked}
 use Rattle.ticks.specs.Again.{again}
@@ -61,6 +61,7 @@ use Rattle.voice.specs.declared.Channel.{Channel}
 use Rattle.voice.specs.declared.Kind.{Kind}
 use Rattle.voice.specs.declared.Kind.the-variants.{Silent, Sqv4, FifoDac}
 use Rattle.voice.specs.declared.Kind.the-variants as kinds
+use Rattle.voice.proofs.Keeps.{fifo-there}
 use Rattle.slots.specs.Slots.{Slot, plainOf}
 use Rattle.plain_chip.specs.Voices.{PlainVoice, withPcm, withOscillator, withPlainQueue}
 use Rattle.plain_chip.specs.Ticks.{VoiceTick, still, plainSound, plainStream, plainFifo, plainTickAs, plainVoiceTick}
@@ -150,9 +151,9 @@ module _ (version : SguVersion) (ram : List ℕ) (t : Target) (sides : Sides) (s
         };
       }
 
-  same-fifo : SameTick version ram (slotFifo version ram t sides s) (plainFifo version ram t sides (plainOf s))
+  same-fifo : kindOf c ≡ FifoDac → SameTick version ram (slotFifo version ram t sides s) (plainFifo version ram t sides (plainOf s))
   unfolding slotFifo plainFifo queueTicks queueTick again acceptsStream acceptsOscillator
-  same-fifo =
+  same-fifo kind =
       let q = s .queue in
       let n = c .registers .frequency in
       let e : plainQueueOf q (ticked (c .fifo) q n) ≡ plainTicked (plainQueueOf q (c .fifo)) n = line-ticked (c .fifo) q n in
@@ -162,7 +163,7 @@ module _ (version : SguVersion) (ram : List ℕ) (t : Target) (sides : Sides) (s
         sides = ap (λ (l : PlainQueue). heard sides (l .held) (c .registers .panpot)) e;
         value = ap (λ (l : PlainQueue). l .held) e;
         ok = record {
-          accepted = record { registers = ok .accepted .registers; pcm = ok .accepted .pcm; oscillator = ok .accepted .oscillator; fifo = tick-accepted (c .fifo) q n (ok .fits .registers .frequency) (ok .accepted .fifo); stream = ok .accepted .stream };
+          accepted = record { registers = ok .accepted .registers; pcm = ok .accepted .pcm; oscillator = ok .accepted .oscillator; fifo = with-fifo version _ (fifo-there c version (length ram) (ok .accepted) kind) (tick-ranged (c .fifo) q n (ok .fits .registers .frequency) (ok .accepted .fifo .ranges)); stream = ok .accepted .stream };
           coherent = ok .coherent;
           fits = record { registers = ok .fits .registers; pcm = ok .fits .pcm; oscillator = record { phase = ok .fits .oscillator .phase; lfsr = ok .fits .oscillator .lfsr; last = last-fits (ticked (c .fifo) q n .held) (f .sample) }; fifo = f };
           table = ok .table;
@@ -222,4 +223,4 @@ same-tick version ram t sides s ok bytes = go (kindOf (s .channel)) refl
     go Silent e = same-silent version ram t sides s ok bytes
     go kinds.Oscillator e = same-sound version ram t sides s ok bytes
     go Sqv4 e = same-stream version ram t sides s ok bytes (stream-kind (s .channel .registers .«waveform_type») (active-kind (s .channel .pcm .active) _ e))
-    go FifoDac e = same-fifo version ram t sides s ok bytes
+    go FifoDac e = same-fifo version ram t sides s ok bytes e

@@ -18,9 +18,9 @@ use Rattle.tone.specs.Sides.{side, Ticks}
 use Rattle.tone.proofs.Ranges.{volume-fits}
 use Rattle.tone.proofs.Sides.{tick-one, ticks-none, ticks-more, ticks-sum, ticks-wider, ticks-fit, frame-range}
 use Rattle.tone.proofs.Wrapping.{wrapped-is}
-use Rattle.registers.specs.Queue.{ticked, AcceptedFifo, FitFifo}
+use Rattle.registers.specs.Queue.{ticked, RangedFifo, FitFifo}
 use Rattle.registers.specs.PlainQueue.{FitEntries}
-use Rattle.registers.proofs.Accepted.{tick-accepted}
+use Rattle.registers.proofs.Accepted.{tick-ranged}
 use Rattle.registers.proofs.Ranges.{tick-fits}
 use Rattle.registers.specs.declared.PcmRegisters.{PcmRegisters}
 use Rattle.registers.specs.declared.WaveformType.{WaveformType}
@@ -120,7 +120,7 @@ module _ (s : Setting) (volume : s .volume ≤ 255) (panpot : s .panpot < 256) w
 -- ---- a queue's ticks
 
 pub record SteadyQueue (m : ℕ) (v : QueueSound) : Type 0 where
-  pub accepted : AcceptedFifo (v .fifo)
+  pub ranged : RangedFifo (v .fifo)
   pub fits : FitFifo (v .fifo)
   pub sides : Room m (v .sides)
 
@@ -133,7 +133,7 @@ queue-steady frequency panpot q h byte entries (suc n) m v small e =
     let f = queueTicks n frequency panpot q v .fifo in
     let d = tick-fits f q frequency entries (b .fits) in
     record {
-      accepted = tick-accepted f q frequency h (b .accepted);
+      ranged = tick-ranged f q frequency h (b .ranged);
       fits = d;
       sides = subst (λ (k : ℕ). Room k (heard (queueTicks n frequency panpot q v .sides) (ticked f q frequency .held) panpot)) (more m n)
           (heard-room (m + n) (queueTicks n frequency panpot q v .sides) (ticked f q frequency .held) panpot (omega arith) (d .sample) byte (b .sides));

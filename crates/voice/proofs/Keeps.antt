@@ -1,27 +1,30 @@
 -- An accepted channel: the test part by part, and what keeps a channel accepted. Assumes nothing.
 use mathlib.Core.Path.{_≡_, refl, sym, ap, _∙_}
-use mathlib.Core.Bool.{true, cond, _&&_}
+use mathlib.Core.Bool.{Bool, true, false, cond, _&&_}
 use Prim.Native.Nat.{ℕ, _^_, _<_}
 use lib.Dec.{eqb, leb, ltb}
 use borrow.Author.Tests.{leb-false}
 use Rattle.num.proofs.Choice.{cond-by, both, together}
 use Rattle.version.specs.Versions.{has3ws8pna, hasSampleControl}
-use Rattle.registers.specs.Waveforms.{isSqv4, waveformFrom}
+use Rattle.registers.specs.Waveforms.{isSqv4, waveformFrom, waveformNumber}
 use Rattle.registers.specs.Control.{writeRegisters, acceptsRegisters}
 use Rattle.registers.specs.Pcm.{writePcm, acceptsPcm}
 use Rattle.registers.specs.Queue.{pushed, acceptsFifo}
 use Rattle.version.specs.declared.SguVersion.{SguVersion}
 use Rattle.registers.specs.declared.WaveformType.{WaveformType}
+use Rattle.registers.specs.declared.WaveformType.the-variants as waveforms
 use Rattle.registers.specs.declared.Registers.{Registers}
 use Rattle.registers.specs.declared.PcmRegisters.{PcmRegisters}
 use Rattle.registers.specs.declared.Fifo.{Fifo}
 use Rattle.registers.proofs.Offsets.{write-none}
-use Rattle.registers.proofs.Accepted.{accepted-registers, registers-accepted, write-accepted, waveform-accepted, default-registers, accepted-pcm, pcm-accepted, write-pcm-accepted, sample-control-accepted, default-pcm, accepted-fifo, fifo-accepted, latch-accepted, push-accepted, default-fifo}
+use Rattle.registers.proofs.Accepted.{accepted-registers, registers-accepted, write-accepted, waveform-accepted, default-registers, accepted-pcm, pcm-accepted, write-pcm-accepted, sample-control-accepted, default-pcm, accepted-fifo, fifo-accepted, with-fifo, latch-ranged, push-ranged, default-fifo}
 use Rattle.stream.specs.Accepted.{acceptsCache}
 use Rattle.ticks.specs.Oscillators.{acceptsOscillator, setPhase}
 use Rattle.ticks.specs.declared.Oscillator.{Oscillator}
 use Rattle.voice.specs.Channel.{defaultChannel, setFifo, setPcm, setRegisters, setChannelVersion}
-use Rattle.voice.specs.Kinds.{oscillatorRestarted}
+use Rattle.voice.specs.Kinds.{soundingOf, oscillatorRestarted}
+use Rattle.voice.specs.Sounding.{kindOf}
+use Rattle.voice.specs.declared.Kind.the-variants as kinds
 use Rattle.voice.specs.Writes.{waveformWritten, restarted, latchWritten, sampleWritten, sampleControlWritten, writeControl, writePcmReg}
 use Rattle.voice.specs.Reads.{afterRead}
 use Rattle.voice.specs.Accepted.{acceptsStream, acceptsChannel, AcceptedChannel}
@@ -36,12 +39,12 @@ module _ (c : Channel) (version : SguVersion) (length : ℕ) where
       let a = both (acceptsRegisters (c .registers) version) _ e in
       let b = both (acceptsPcm (c .pcm)) _ (a .1) in
       let d = both (acceptsOscillator (c .oscillator)) _ (b .1) in
-      let f = both (acceptsFifo (c .fifo)) _ (d .1) in
+      let f = both (acceptsFifo version (c .fifo)) _ (d .1) in
       record {
         registers = accepted-registers (c .registers) version (a .0);
         pcm = accepted-pcm (c .pcm) (b .0);
         oscillator = d .0;
-        fifo = accepted-fifo (c .fifo) (f .0);
+        fifo = accepted-fifo version (c .fifo) (f .0);
         stream = f .1;
       }
 
@@ -49,7 +52,7 @@ module _ (c : Channel) (version : SguVersion) (length : ℕ) where
   unfolding acceptsChannel
   channel-accepted a =
       together _ _ (registers-accepted (c .registers) version (a .registers))
-      (together _ _ (pcm-accepted (c .pcm) (a .pcm)) (together _ _ (a .oscillator) (together _ _ (fifo-accepted (c .fifo) (a .fifo)) (a .stream))))
+      (together _ _ (pcm-accepted (c .pcm) (a .pcm)) (together _ _ (a .oscillator) (together _ _ (fifo-accepted version (c .fifo) (a .fifo)) (a .stream))))
 
 -- ---- parts
 
@@ -98,12 +101,12 @@ module _ (c : Channel) (length : ℕ) where
 
 pub default-accepted : (version : SguVersion) (length : ℕ) → AcceptedChannel defaultChannel version length
 unfolding acceptsOscillator acceptsStream
-default-accepted version length = record { registers = default-registers version; pcm = default-pcm; oscillator = refl; fifo = default-fifo; stream = refl }
+default-accepted version length = record { registers = default-registers version; pcm = default-pcm; oscillator = refl; fifo = default-fifo version; stream = refl }
 
 pub version-accepted : (c : Channel) (old version : SguVersion) (length longer : ℕ) → AcceptedChannel c old length → AcceptedChannel (setChannelVersion c version) version longer
 unfolding setChannelVersion acceptsStream
 version-accepted c old version length longer a =
-    record { registers = waveform-accepted (c .registers) old version (c .registers .«waveform_type») (a .registers); pcm = a .pcm; oscillator = a .oscillator; fifo = default-fifo; stream = refl }
+    record { registers = waveform-accepted (c .registers) old version (c .registers .«waveform_type») (a .registers); pcm = a .pcm; oscillator = a .oscillator; fifo = default-fifo version; stream = refl }
 
 module _ (c : Channel) (version : SguVersion) (length : ℕ) (a : AcceptedChannel c version length) where
   abbrev ok : Channel → Type 0
@@ -116,20 +119,20 @@ module _ (c : Channel) (version : SguVersion) (length : ℕ) (a : AcceptedChanne
 
   restart-kept : AcceptedChannel (restarted c) version length
   unfolding restarted acceptsStream
-  restart-kept = record { registers = a .registers; pcm = a .pcm; oscillator = restarted-oscillator (c .oscillator) (a .oscillator); fifo = default-fifo; stream = refl }
+  restart-kept = record { registers = a .registers; pcm = a .pcm; oscillator = restarted-oscillator (c .oscillator) (a .oscillator); fifo = default-fifo version; stream = refl }
 
   latch-kept : (value : ℕ) → AcceptedChannel (latchWritten version c value) version length
   unfolding latchWritten
   latch-kept value =
       cond-by ok (has3ws8pna version) _ _
-      (λ e. record { registers = a .registers; pcm = a .pcm; oscillator = a .oscillator; fifo = latch-accepted (c .fifo) value (a .fifo); stream = fifo-stream c length _ (a .stream) })
+      (λ e. record { registers = a .registers; pcm = a .pcm; oscillator = a .oscillator; fifo = with-fifo version _ e (latch-ranged (c .fifo) value (a .fifo .ranges)); stream = fifo-stream c length _ (a .stream) })
       (λ e. a)
 
   sample-kept : AcceptedChannel (sampleWritten version c) version length
   unfolding sampleWritten
   sample-kept =
       cond-by ok (has3ws8pna version) _ _
-      (λ e. record { registers = a .registers; pcm = a .pcm; oscillator = a .oscillator; fifo = push-accepted (c .fifo) (a .fifo); stream = fifo-stream c length (pushed (c .fifo)) (a .stream) })
+      (λ e. record { registers = a .registers; pcm = a .pcm; oscillator = a .oscillator; fifo = with-fifo version _ e (push-ranged (c .fifo) (a .fifo .ranges)); stream = fifo-stream c length (pushed (c .fifo)) (a .stream) })
       (λ e. a)
 
   sample-control-kept : (value : ℕ) → AcceptedChannel (sampleControlWritten version c value) version length
@@ -164,3 +167,16 @@ module _ (c : Channel) (version : SguVersion) (length : ℕ) (a : AcceptedChanne
       cond-by ok (eqb offset 10) _ _
       (λ e. record { registers = a .registers; pcm = a .pcm; oscillator = phase-oscillator (c .oscillator) 0 (a .oscillator); fifo = a .fifo; stream = refl })
       (λ e. a)
+
+-- ---- a FIFO voice that is accepted is one of a chip that has a FIFO
+fifo-kind : (active : Bool) (w : WaveformType) → cond active (soundingOf w) kinds.Silent ≡ kinds.FifoDac → waveformNumber w ≡ 5
+fifo-kind false w e = cc
+fifo-kind true waveforms.Wavetable e = cc
+fifo-kind true waveforms.Pcm e = cc
+fifo-kind true waveforms.Noise e = cc
+fifo-kind true waveforms.DmaPcm e = cc
+fifo-kind true waveforms.Sqv4 e = cc
+fifo-kind true waveforms.FifoDac e = refl
+
+pub fifo-there : (c : Channel) (version : SguVersion) (length : ℕ) → AcceptedChannel c version length → kindOf c ≡ kinds.FifoDac → has3ws8pna version ≡ true
+fifo-there c version length a e = a .registers .fifo (fifo-kind (c .pcm .active) (c .registers .«waveform_type») e)

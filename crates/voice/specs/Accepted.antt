@@ -21,7 +21,7 @@ acceptsChannel c version length =
     acceptsRegisters (c .registers) version
     && (acceptsPcm (c .pcm)
     && (acceptsOscillator (c .oscillator)
-    && (acceptsFifo (c .fifo)
+    && (acceptsFifo version (c .fifo)
     && acceptsStream c length)))
 
 -- the same, part by part
@@ -29,5 +29,5 @@ pub record AcceptedChannel (c : Channel) (version : SguVersion) (length : ℕ) :
   pub registers : AcceptedRegisters (c .registers) version
   pub pcm : AcceptedPcm (c .pcm)
   pub oscillator : acceptsOscillator (c .oscillator) ≡ true
-  pub fifo : AcceptedFifo (c .fifo)
+  pub fifo : AcceptedFifo version (c .fifo)
   pub stream : acceptsStream c length ≡ true

@@ -46,7 +46,7 @@ impl Channel {
             return false;
         }
         let f = self.fifo;
-        if !f.accepts() {
+        if !f.accepts(version) {
             return false;
         }
         self.accepts_stream(length)

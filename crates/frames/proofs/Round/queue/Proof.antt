@@ -51,10 +51,10 @@ returns c =
     let e = queue-is (a .n) (a .c .registers .frequency) (a .c .registers .panpot) from _ (a .queues .now) _ _ _ refl (sound .ensures) (run .ensures .0) in (
       e,
       (
-        (λ ram accepted.
+        (λ kind ram accepted.
             let g = run .ok .1 .1 in
             let fits : FitFifo (run .result .fifo) = record { sample = record { sfits = g .0 .1 .1 .1 .1 .0 .1 }; byte = g .0 .1 .1 .1 .1 .1 .1 .1 .0 .1 } in
-            queue-kept (a .c) (a .self .version) ram (a .n) (omega (arith, b .pre)) accepted (fit-channel (a .c) (b .good .1 .0 .1 .1)) _ _ e fits (plain-room (a .n) _ (run .ensures .1 .0 0 (omega (arith, b .pre)) (subst (λ (v : QueueSound). Room 0 (v .sides)) (sym (sound .ensures)) room-none)))),
+            queue-kept (a .c) (a .self .version) ram (a .n) (omega (arith, b .pre)) kind accepted (fit-channel (a .c) (b .good .1 .0 .1 .1)) _ _ e fits (plain-room (a .n) _ (run .ensures .1 .0 0 (omega (arith, b .pre)) (subst (λ (v : QueueSound). Room 0 (v .sides)) (sym (sound .ensures)) room-none)))),
         ap (putMid from (from + fifoCapacity - from) (a .queues .now)) (run .ensures .1 .1) ∙ put-same from (from + fifoCapacity - from) (a .queues .now),
       ),
     )

@@ -1,5 +1,6 @@
-use borrow.Author.Needs.{needs}
+use mathlib.Core.Bool.{true, false}
 use Rattle.log_state.proofs.Cases.{head-taken, voice-taken}
+use borrow.Author.Needs.{needs}
 use Rattle.log_state.proofs.lines.take_line.Statement.{statement}
 use Rattle.log_state.proofs.lines.take_line.Tie as tie
 
@@ -10,10 +11,10 @@ taken-requires : tie.Need-taken-requires
 taken-requires c κs = search needs
 
 returns : tie.Need-returns
-returns c = head-taken (c .before .before .before .before .before .before .args .player) _ (c .before .before .before .before .before .before .args .queues .now) (c .before .before .before .before .before .before .args .k) (c .before .before .before .before .before .before .args .text .now) _ _ (c .before .before .if1 .taken) (c .before .read-head .ensures) (c .taken .ensures)
+returns c = head-taken (c .before .before .before .before .before .before .args .stored) (c .before .before .before .before .before .before .args .player) _ (c .before .before .before .before .before .before .args .queues .now) (c .before .before .before .before .before .before .args .k) (c .before .before .before .before .before .before .args .text .now) _ _ (c .before .before .if1 .taken) (c .before .read-head .ensures) (c .taken .ensures)
 
-read-voice-requires : tie.Need-read-voice-requires
-read-voice-requires c κs = search needs
+read-stored-voice-requires : tie.Need-read-stored-voice-requires
+read-stored-voice-requires c κs = search needs
 
 taken-requires-2 : tie.Need-taken-requires-2
 taken-requires-2 c κs = search needs
@@ -22,7 +23,19 @@ same-length : tie.Need-same-length
 same-length c = search needs
 
 returns-2 : tie.Need-returns-2
-returns-2 c = voice-taken (c .before .before .before .before .before .before .before .before .args .player) _ (c .before .before .before .before .before .before .before .before .args .queues .now) (c .before .before .before .before .before .before .before .before .args .k) (c .before .before .before .before .before .before .before .before .args .text .now) _ _ _ (c .before .before .before .before .if1 .left) (c .before .before .read-voice .ensures) (c .taken2 .ensures)
+returns-2 c = voice-taken (c .before .before .before .before .before .before .before .before .before .args .stored) (c .before .before .before .before .before .before .before .before .before .args .player) _ (c .before .before .before .before .before .before .before .before .before .args .queues .now) (c .before .before .before .before .before .before .before .before .before .args .k) (c .before .before .before .before .before .before .before .before .before .args .text .now) _ _ true _ (c .before .before .before .before .before .if1 .left) (c .before .before .before .before .if2 .taken) (c .before .before .read-stored-voice .ensures) (c .taken2 .ensures)
+
+read-voice-requires : tie.Need-read-voice-requires
+read-voice-requires c κs = search needs
+
+taken-requires-3 : tie.Need-taken-requires-3
+taken-requires-3 c κs = search needs
+
+same-length-2 : tie.Need-same-length-2
+same-length-2 c = search needs
+
+returns-3 : tie.Need-returns-3
+returns-3 c = voice-taken (c .before .before .before .before .before .before .before .before .before .args .stored) (c .before .before .before .before .before .before .before .before .before .args .player) _ (c .before .before .before .before .before .before .before .before .before .args .queues .now) (c .before .before .before .before .before .before .before .before .before .args .k) (c .before .before .before .before .before .before .before .before .before .args .text .now) _ _ false _ (c .before .before .before .before .before .if1 .left) (c .before .before .before .before .if2 .left) (c .before .before .read-voice .ensures) (c .taken3 .ensures)
 
 pub take-line-spec : {M : Type 1} → statement M
 take-line-spec =
@@ -31,7 +44,11 @@ take-line-spec =
     read-head-requires
     taken-requires
     returns
-    read-voice-requires
+    read-stored-voice-requires
     taken-requires-2
     same-length
-    returns-2)
+    returns-2
+    read-voice-requires
+    taken-requires-3
+    same-length-2
+    returns-3)

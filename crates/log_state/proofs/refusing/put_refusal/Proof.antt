@@ -51,6 +51,12 @@ enum-told-7 c = search needs
 put-number-requires-5 : tie.Need-put-number-requires-5
 put-number-requires-5 c κs = search needs
 
+enum-told-8 : tie.Need-enum-told-8
+enum-told-8 c = search needs
+
+put-number-requires-6 : tie.Need-put-number-requires-6
+put-number-requires-6 c κs = search needs
+
 returns : tie.Need-returns
 returns c = answer-as _ _ _ _ _ _ (c .before .enum-told .given .1) (none-put _ _ _ (c .least .ensures))
 
@@ -93,6 +99,12 @@ same-length-6 c = search needs
 returns-8 : tie.Need-returns-8
 returns-8 c = answer-as _ _ _ _ _ _ (c .before .before .before .before .enum-told7 .given .1) (c .before .before .put-number5 .ensures)
 
+same-length-7 : tie.Need-same-length-7
+same-length-7 c = search needs
+
+returns-9 : tie.Need-returns-9
+returns-9 c = answer-as _ _ _ _ _ _ (c .before .before .before .before .enum-told8 .given .1) (c .before .before .put-number6 .ensures)
+
 pub put-refusal-spec : {M : Type 1} → statement M
 put-refusal-spec =
     tie.close
@@ -113,6 +125,8 @@ put-refusal-spec =
     put-malformed-requires
     enum-told-7
     put-number-requires-5
+    enum-told-8
+    put-number-requires-6
     returns
     returns-2
     same-length
@@ -126,4 +140,6 @@ put-refusal-spec =
     same-length-5
     returns-7
     same-length-6
-    returns-8)
+    returns-8
+    same-length-7
+    returns-9)

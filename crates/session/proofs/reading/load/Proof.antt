@@ -63,7 +63,7 @@ returns c =
     let b = c .before .before .before .before .before .before .before .before .before .before in
     let v = c .before .before .read-voice in
     let n = chip-fits (b .args .chip) (b .good .0 .1 .1) .sized .wavetables in
-    (chip-loaded _ (b .args .ch) (b .pre .0) (b .args .chip) _ (v .last .1 .1 .1 .0) n (v .ensures .0) (v .ensures .1 .0), queues-loaded _ (b .args .ch) (b .pre .0) (b .args .queues .now) (v .last .1 .1 .1 .1 .0) (b .pre .1) (v .ensures .1 .1))
+    (chip-loaded _ (b .args .ch) (b .pre .0) (b .args .chip) _ (v .last .1 .1 .1 .1 .0) n (v .ensures .0) (v .ensures .1 .0), queues-loaded _ (b .args .ch) (b .pre .0) (b .args .queues .now) (v .last .1 .1 .1 .1 .1 .0) (b .pre .1) (v .ensures .1 .1))
 
 pub load-spec : {M : Type 1} → statement M
 load-spec =

@@ -1,5 +1,5 @@
 use mathlib.Core.Path.{sym, _∙_}
-use Rattle.session_lines.proofs.Whole.{read-yes, read-no, after-yes, after-no}
+use Rattle.session_lines.proofs.Whole.{read-yes, read-no, after-same, after-no}
 use borrow.Author.Needs.{needs}
 use Rattle.session_lines.proofs.reading.read_voice.Statement.{statement}
 use Rattle.session_lines.proofs.reading.read_voice.Tie as tie
@@ -16,23 +16,11 @@ read-line-requires c κs = search needs
 enum-told : tie.Need-enum-told
 enum-told c = search needs
 
-slice-aggregate-take-table : tie.Need-slice-aggregate-take-table
-slice-aggregate-take-table c = search needs
+slice-aggregate-take-voice : tie.Need-slice-aggregate-take-voice
+slice-aggregate-take-voice c = search needs
 
-take-table-requires : tie.Need-take-table-requires
-take-table-requires c κs = search needs
-
-slice-aggregate-take-samples : tie.Need-slice-aggregate-take-samples
-slice-aggregate-take-samples c = search needs
-
-take-samples-requires : tie.Need-take-samples-requires
-take-samples-requires c κs = search needs
-
-slice-aggregate-channel-of : tie.Need-slice-aggregate-channel-of
-slice-aggregate-channel-of c = search needs
-
-channel-of-requires : tie.Need-channel-of-requires
-channel-of-requires c κs = search needs
+take-voice-requires : tie.Need-take-voice-requires
+take-voice-requires c κs = search needs
 
 enum-told-2 : tie.Need-enum-told-2
 enum-told-2 c = search needs
@@ -44,10 +32,12 @@ same-length-2 : tie.Need-same-length-2
 same-length-2 c = search needs
 
 returns : tie.Need-returns
-returns c = after-yes _ _ _ _ _ _ _ _ (read-yes _ _ _ _ _ (c .before .before .before .before .before .before .before .before .before .before .before .before .before .before .before .before .has-3ws8pna .ensures) (sym (c .before .before .before .before .before .before .before .before .before .before .before .enum-told .given .1) ∙ c .before .before .before .before .before .before .before .before .before .before .before .before .before .before .read-line .ensures .0) (c .before .before .before .before .before .before .before .before .before .before .before .before .before .before .read-line .ensures .1)) (c .channel-of .ensures) (c .before .before .before .before .before .before .before .before .take-table .ensures) (c .before .before .before .take-samples .ensures)
+returns c =
+    let n = c .before .before .before .before .before .before .before .before .before in
+    after-same _ _ _ _ _ _ _ _ (read-yes _ _ _ _ _ _ (n .before .before .before .has-3ws8pna .ensures) (sym (c .before .before .before .before .before .before .before .enum-told .given .1) ∙ n .before .read-line .ensures .0) (n .before .read-line .ensures .1)) (c .before .before .before .take-voice .ensures)
 
 returns-2 : tie.Need-returns-2
-returns-2 c = after-no _ _ _ _ _ (read-no _ _ _ _ (c .before .before .before .before .before .has-3ws8pna .ensures) (sym (c .enum-told2 .given .1) ∙ c .before .before .before .read-line .ensures .0))
+returns-2 c = after-no _ _ _ _ _ (read-no _ _ _ _ _ (c .before .before .before .before .before .has-3ws8pna .ensures) (sym (c .enum-told2 .given .1) ∙ c .before .before .before .read-line .ensures .0))
 
 pub read-voice-spec : {M : Type 1} → statement M
 read-voice-spec =
@@ -57,12 +47,8 @@ read-voice-spec =
     slice-aggregate-read-line
     read-line-requires
     enum-told
-    slice-aggregate-take-table
-    take-table-requires
-    slice-aggregate-take-samples
-    take-samples-requires
-    slice-aggregate-channel-of
-    channel-of-requires
+    slice-aggregate-take-voice
+    take-voice-requires
     enum-told-2
     same-length
     same-length-2

@@ -1,8 +1,6 @@
-use mathlib.Core.Path.{refl, sym, ap, _∙_}
-use Prim.Native.Nat.{ℕ, _-_, _<_}
+use mathlib.Core.Path.{refl, sym, _∙_}
+use Prim.Native.Nat.{_-_, _<_}
 use native.Mathlib.Omega.{arith}
-use lib.ListN.{length}
-use Prim.Native.Nat.{min}
 use lib.IntN.{pos}
 use mir.Syntax.{w16}
 use Rattle.num.proofs.Integers.{back}
@@ -13,13 +11,10 @@ use Rattle.session_lines.proofs.reading.take_samples.Statement.{stateme
 use Rattle.session_lines.proofs.reading.take_samples.Tie as tie
 
 abbrev Inv-loop : tie.InvT-loop
-Inv-loop numbers queue₀ count end i₀ queue i = Storing queue₀ queue 0 (queuedSamples (at numbers)) i
+Inv-loop numbers count queue₀ end i₀ queue i = Storing queue₀ queue 0 (queuedSamples (at numbers) count) i
 
 abbrev μ-loop : tie.MeasureT-loop
-μ-loop numbers queue₀ count end i₀ queue i = end - i
-
-number-at-requires : tie.Need-number-at-requires Inv-loop μ-loop
-number-at-requires c κs = search needs
+μ-loop numbers count queue₀ end i₀ queue i = end - i
 
 least-requires : tie.Need-least-requires Inv-loop μ-loop
 least-requires c κs = search needs
@@ -33,8 +28,8 @@ add-sample c = search needs
 sample-requires : tie.Need-sample-requires Inv-loop μ-loop
 sample-requires c κs = search needs
 
-mul-t11 : tie.Need-mul-t11 Inv-loop μ-loop
-mul-t11 c = search needs
+mul-t10 : tie.Need-mul-t10 Inv-loop μ-loop
+mul-t10 c = search needs
 
 slice-set-from-queue : tie.Need-slice-set-from-queue Inv-loop μ-loop
 slice-set-from-queue c = omega (arith, c .before .loop-test .taken, c .before .before .before .least .ensures, same-size (c .before .before .loop .inv))
@@ -47,16 +42,19 @@ loop-less c = omega arith
 
 loop-again : tie.Need-loop-again Inv-loop μ-loop
 loop-again c =
-    let f = at (c .before .before .before .before .before .before .args .numbers .now) in
+    let a = c .before .before .before .before .before .args in
+    let f = at (a .numbers .now) in
     let i = c .before .before .loop .i in
-    let h : i < f 281 = omega (arith, c .before .loop-test .taken, c .before .before .before .least .ensures, c .before .before .before .before .number-at .ensures) in
-    next (c .before .before .loop .inv) (pos 0) _ i (omega (arith, h, size-samples f)) (back w16 _ (sfits-of (c .sample .ok)) ∙ c .sample .ensures ∙ sym (nth-samples f i h)) (omega arith) refl
+    let h : i < a .count = omega (arith, c .before .loop-test .taken, c .before .before .before .least .ensures) in
+    next (c .before .before .loop .inv) (pos 0) _ i (omega (arith, h, size-samples f (a .count))) (back w16 _ (sfits-of (c .sample .ok)) ∙ c .sample .ensures ∙ sym (nth-samples f (a .count) i h)) (omega arith) refl
 
 same-length : tie.Need-same-length Inv-loop μ-loop
 same-length c = same-size (c .before .loop .inv)
 
 returns : tie.Need-returns Inv-loop μ-loop
-returns c = clipped (c .before .loop .inv) (at (c .before .before .before .before .before .args .numbers .now) 281) _ (size-samples (at (c .before .before .before .before .before .args .numbers .now))) (c .before .before .least .ensures ∙ ap (λ (n : ℕ). min (length (c .before .before .before .before .before .args .queue .now)) n) (c .before .before .before .number-at .ensures)) (c .loop-test .left)
+returns c =
+    let a = c .before .before .before .before .args in
+    clipped (c .before .loop .inv) (a .count) _ (size-samples (at (a .numbers .now)) (a .count)) (c .before .before .least .ensures) (c .loop-test .left)
 
 pub take-samples-spec : {M : Type 1} → statement M
 take-samples-spec =
@@ -64,12 +62,11 @@ take-samples-spec =
     (tie.spec
     Inv-loop
     μ-loop
-    number-at-requires
     least-requires
     loop-holds
     add-sample
     sample-requires
-    mul-t11
+    mul-t10
     slice-set-from-queue
     add-i
     loop-less

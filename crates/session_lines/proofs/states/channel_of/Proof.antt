@@ -6,9 +6,6 @@ use Rattle.session_lines.proofs.states.channel_of.Tie as tie
 oscillator-of-requires : tie.Need-oscillator-of-requires
 oscillator-of-requires c κs = search needs
 
-fifo-of-requires : tie.Need-fifo-of-requires
-fifo-of-requires c κs = search needs
-
 empty-requires : tie.Need-empty-requires
 empty-requires c κs = search needs
 
@@ -22,8 +19,8 @@ returns : tie.Need-returns
 unfolding channelFrom
 returns c =
     λ i. record {
-      oscillator = c .before .before .before .before .oscillator-of .ensures i;
-      fifo = c .before .before .before .fifo-of .ensures i;
+      oscillator = c .before .before .before .oscillator-of .ensures i;
+      fifo = c .before .before .before .before .before .args .queue;
       stream = c .before .before .empty .ensures i;
       pcm = c .before .pcm-of .ensures i;
       registers = c .registers-of .ensures i;
@@ -34,7 +31,6 @@ channel-of-spec =
     tie.close
     (tie.spec
     oscillator-of-requires
-    fifo-of-requires
     empty-requires
     pcm-of-requires
     registers-of-requires

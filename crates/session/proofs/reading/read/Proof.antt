@@ -3,19 +3,19 @@ use mathlib.Core.Path.{sym, ap, _∙_}
 use borrow.Author.Tests.{not-true, not-false}
 use Rattle.session.specs.declared.LineAnswer.the-variants.{Done}
 use Rattle.s3w2.specs.declared.Chip.{Chip}
-use Rattle.session_lines.specs.Lines.{readVoice}
+use Rattle.session_lines.specs.Lines.{readAs}
 use Rattle.session.specs.Answers.{lineAnswered}
-use Rattle.session.specs.Voices.{readVoiceCalled, readVoiceQueues}
+use Rattle.session.specs.Voices.{voiceReadCalled, voiceReadQueues}
 use Rattle.session.proofs.Told.{read-named}
-use Rattle.session.proofs.Lines.{not-lent, not-accepted, goes-on, voice-called, voice-queues, fault-called, fault-queues}
-use Rattle.session.proofs.reading.read_voice.Statement.{statement}
-use Rattle.session.proofs.reading.read_voice.Tie as tie
+use Rattle.session.proofs.Lines.{not-lent, not-accepted, goes-on, voice-called, voice-queues, fault-called, fault-queues, queue-called, queue-queues}
+use Rattle.session.proofs.reading.read.Statement.{statement}
+use Rattle.session.proofs.reading.read.Tie as tie
 
 answers-requires : tie.Need-answers-requires
 answers-requires c κs = search needs
 
 returns : tie.Need-returns
-unfolding readVoiceCalled readVoiceQueues
+unfolding voiceReadCalled voiceReadQueues
 returns c =
     let a = c .before .before .before .args in
     let n = c .before .if1 .taken in
@@ -28,7 +28,7 @@ answers-requires-2 : tie.Need-answers-requires-2
 answers-requires-2 c κs = search needs
 
 returns-2 : tie.Need-returns-2
-unfolding readVoiceCalled readVoiceQueues
+unfolding voiceReadCalled voiceReadQueues
 returns-2 c =
     let a = c .before .before .before .before .before .args in
     let e = sym (c .before .before .accepted .ensures) ∙ not-true _ (c .before .if2 .taken) in
@@ -47,7 +47,7 @@ load-requires c κs =
     let k = l .before .before in
     let s = k .before .before in
     let a = s .before .before .before .args in
-    (read-named (a .chip .version) (a .text .now) _ (sym (k .check-voice .ensures) ∙ l .line .given .1), s .before .if1 .left)
+    (read-named (a .stored) (a .chip .version) (a .text .now) _ (sym (k .check-voice .ensures) ∙ l .line .given .1), s .before .if1 .left)
 
 answers-requires-3 : tie.Need-answers-requires-3
 answers-requires-3 c κs = search needs
@@ -58,11 +58,17 @@ enum-known-line-2 c = search needs
 answers-requires-4 : tie.Need-answers-requires-4
 answers-requires-4 c κs = search needs
 
+enum-told : tie.Need-enum-told
+enum-told c = search needs
+
+answers-requires-5 : tie.Need-answers-requires-5
+answers-requires-5 c κs = search needs
+
 same-length : tie.Need-same-length
 same-length c = search needs
 
 returns-3 : tie.Need-returns-3
-unfolding readVoiceCalled readVoiceQueues
+unfolding voiceReadCalled voiceReadQueues
 returns-3 c =
     let l = c .before .before .before .before .before in
     let k = l .before .before in
@@ -70,7 +76,7 @@ returns-3 c =
     let a = s .before .before .before .args in
     let e = sym (s .accepted .ensures) ∙ not-false _ (k .before .if2 .left) in
     let n = s .before .if1 .left in
-    let r = readVoice (a .chip .version) (a .text .now) in
+    let r = readAs (a .stored) (a .chip .version) (a .text .now) in
     let v = sym (k .check-voice .ensures) ∙ l .line .given .1 in
     let d = c .before .before .load in (
       c .answers3 .ensures ∙ ap (λ (x : Chip). lineAnswered x Done) (d .ensures .0) ∙ voice-called r _ v (a .chip) ∙ goes-on (a .chip) (a .queues .now) _ _ _ n e,
@@ -78,7 +84,7 @@ returns-3 c =
     )
 
 returns-4 : tie.Need-returns-4
-unfolding readVoiceCalled readVoiceQueues
+unfolding voiceReadCalled voiceReadQueues
 returns-4 c =
     let l = c .before .before in
     let k = l .before .before in
@@ -86,12 +92,25 @@ returns-4 c =
     let a = s .before .before .before .args in
     let e = sym (s .accepted .ensures) ∙ not-false _ (k .before .if2 .left) in
     let n = s .before .if1 .left in
-    let r = readVoice (a .chip .version) (a .text .now) in
+    let r = readAs (a .stored) (a .chip .version) (a .text .now) in
     let v = sym (k .check-voice .ensures) ∙ l .line2 .given .1 in
     (c .answers4 .ensures ∙ fault-called r _ v (a .chip) ∙ goes-on (a .chip) (a .queues .now) _ _ _ n e, fault-queues r _ v (a .queues .now) ∙ goes-on (a .chip) (a .queues .now) _ _ _ n e)
 
-pub read-voice-spec : {M : Type 1} → statement M
-read-voice-spec =
+returns-5 : tie.Need-returns-5
+unfolding voiceReadCalled voiceReadQueues
+returns-5 c =
+    let l = c .before in
+    let k = l .before .before in
+    let s = k .before .before in
+    let a = s .before .before .before .args in
+    let e = sym (s .accepted .ensures) ∙ not-false _ (k .before .if2 .left) in
+    let n = s .before .if1 .left in
+    let r = readAs (a .stored) (a .chip .version) (a .text .now) in
+    let v = sym (k .check-voice .ensures) ∙ l .enum-told .given .1 in
+    (c .answers5 .ensures ∙ queue-called r v (a .chip) ∙ goes-on (a .chip) (a .queues .now) _ _ _ n e, queue-queues r v (a .queues .now) ∙ goes-on (a .chip) (a .queues .now) _ _ _ n e)
+
+pub read-spec : {M : Type 1} → statement M
+read-spec =
     tie.close
     (tie.spec
     answers-requires
@@ -105,6 +124,9 @@ read-voice-spec =
     answers-requires-3
     enum-known-line-2
     answers-requires-4
+    enum-told
+    answers-requires-5
     same-length
     returns-3
-    returns-4)
+    returns-4
+    returns-5)
