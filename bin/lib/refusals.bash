@@ -1,0 +1,156 @@
+# What a refusal says, in words. The numbers are those of docs/SPECIFICATION.md, "Numbers of what is turned away".
+
+# The field of a line that is at fault, its value (at most 40 characters, all printable) and what was expected there. KIND is `log`, `terms`
+# (sqv4-make's first line) or `sample`.
+field_at_fault() { # KIND LINE
+    KIND=$1 LINE=$2 LC_ALL=C awk 'BEGIN {
+        line = ENVIRON["LINE"]; kind = ENVIRON["KIND"]
+        n = split(line, f, ",")
+        if (line == "") tell("it is empty")
+        if (kind == "sample") { number(1, -32768, 32767, "a sample"); last(1) }
+        if (kind == "terms") {
+            number(1, 0, 2, "a variant"); number(2, 0, "4294967295", "a sample rate")
+            number(3, 0, 255, "a volume"); number(4, 0, 255, "a step index"); last(4)
+        }
+        if (f[1] !~ /^[WMRPCV]$/) wrong(1, "W, M, R, P, C or V")
+        if (f[1] == "W" || f[1] == "M") { number(2, 0, "4294967295", "an address"); number(3, 0, 255, "a byte"); last(3) }
+        if (f[1] == "R" || f[1] == "P") { number(2, 0, "4294967295", "an address"); last(2) }
+        if (f[1] == "C") { number(2, 1, 1000, "a number of frames"); last(2) }
+        number(2, 0, 4, "a version"); last(2)
+    }
+    function tell(words) { print words; exit }
+    function wrong(k, wanted) {
+        if (f[k] ~ /\r$/) tell("field " k " ends in a carriage return (byte 13), and lines are ended by byte 10 alone")
+        gsub(/[^ -~]/, "?", f[k])
+        if (length(f[k]) > 40) f[k] = substr(f[k], 1, 40) ".."
+        tell("field " k " is \"" f[k] "\", expected " wanted)
+    }
+    function number(k, low, high, what,    size) {
+        what = what " from " low " to " high
+        if (k > n) tell("it ends before field " k ", " what)
+        size = f[k]; if (low < 0) sub(/^-/, "", size)
+        if (size !~ /^(0|[1-9][0-9]*)$/ || f[k] == "-0") wrong(k, what " in plain decimal")
+        if (length(size) > 10 || f[k] + 0 < low + 0 || f[k] + 0 > high + 0) wrong(k, what)
+    }
+    function last(k) {
+        if (n > k) wrong(k + 1, "the end of the line")
+        exit
+    }'
+}
+
+# Line NUMBER of the input and whether it is ended, where the input can be read again.
+line_of_input() { # NUMBER
+    local text
+    [ ${#shown[@]} -gt 0 ] || return 1
+    text=$(cat -- "${shown[@]}" 2>/dev/null | LC_ALL=C sed -n -e "$1p" -e "$(($1 + 1))q" | LC_ALL=C tr '\000' '?'; echo .)
+    text=${text%.}
+    [ -n "$text" ] || return 1
+    printf '%s' "$text"
+}
+
+# Where and why a line is malformed.
+malformed_line() { # KIND NUMBER WHAT
+    local text fault
+    text=$(line_of_input "$2"; echo .)
+    text=${text%.}
+    [ -n "$text" ] || { echo "line $2 is $3"; return; }
+    fault=$(field_at_fault "$1" "${text%$'\n'}")
+    if [ -z "$fault" ] && [ "$text" = "${text%$'\n'}" ]; then fault='it is not ended by byte 10'; fi
+    echo "line $2 is $3${fault:+: $fault}"
+}
+
+# A register above the last one.
+unmapped_line() { # NUMBER
+    local text letter address
+    text=$(line_of_input "$1") || { echo "line $1 names a register above 2303, the last one"; return; }
+    IFS=, read -r letter address _ <<< "$text"
+    echo "line $1 names register $address in its field 2, expected 0 to 2303"
+}
+
+# A field of a state's line. The head has three fields, a voice line 282 and the queued samples.
+state_field() { # FIELD
+    local names=('a channel from 0 to 7' 'a frequency from 0 to 65535' 'a waveform from 0 to 5 (to 4 under V1 and V2)' 'a volume from 0 to 255'
+        'a panpot from 0 to 255' 'a modulation type from 0 to 6' 'a modulation target from 0 to 7' 'a targeting mode, 0 or 1'
+        'modulation parameter 1 from 0 to 65535' 'modulation parameter 2 from 0 to 65535'
+        'a start address from 0 to 16777215' 'an end address from 0 to 16777215' 'a loop address from 0 to 16777215'
+        'a PCM control byte from 0 to 255' 'a sample control from 0 to 7' 'active, 0 or 1'
+        'a phase from 0 to 18446744073709551615' 'an old phase from 0 to 34359738367' 'an LFSR state from 0 to 4294967295'
+        'a last sample from -32768 to 32767' 'a slew from 0 to 65280' 'a held sample from -32768 to 32767' 'a hold from 0 to 65535'
+        'a sub-tick from 0 to 3' 'a latch byte from 0 to 255')
+    local head=('S3W2' 'a version from 0 to 4' 'a RAM length, a power of two from 256 to 16777216' 'the end of the line')
+    local field=$1 voice
+    if [ "$field" -le 25 ]; then voice=${names[field - 1]}
+    elif [ "$field" -le 281 ]; then voice="wavetable byte $((field - 26)), from 0 to 255"
+    elif [ "$field" -eq 282 ]; then voice='a queue count from 0 to 2048'
+    else voice="queued sample $((field - 282)) from -32768 to 32767, or the end of the line behind the last one"
+    fi
+    if [ "$field" -le 4 ]; then
+        echo "field $field of its first bad line: expected ${head[field - 1]} where that is the head, $voice where it is a voice line"
+    else
+        echo "field $field of its first bad voice line: expected $voice"
+    fi
+}
+
+# A refusal of s3w2-load: of the state, or of a line of the log behind it.
+load_refusal() { # NUMBER [VALUE]
+    case $1,${2-} in
+    1,) echo "the state is refused (1): fewer than 65536 bytes of RAM follow its voice lines" ;;
+    22,) echo "the state is refused (22): its head is that of a RAM of another length than 65536" ;;
+    23,) echo "the state is refused (23): a voice line under V1 or V2 has a held sample, hold, sub-tick, latch or queue count that is not 0" ;;
+    16,17 | 16,27) echo "refused: either the state, with 16 at $(state_field "$2"); or line 16 of the log behind it, with $2" ;;
+    16,*) echo "the state is refused (16) at $(state_field "$2")" ;;
+    *,17) echo "line $1 of the log behind the state is no line of a log (17)" ;;
+    *,27) echo "line $1 of the log behind the state names a register above 2303, the last one (27)" ;;
+    *) echo "the state is refused with number $1" ;;
+    esac
+}
+
+# The field of sqv4-make's first line that is out of its range.
+term_at_fault() {
+    local text rate volume index
+    text=$(line_of_input 1)
+    IFS=, read -r _ rate volume index <<< "$text"
+    if [ "$rate" = 0 ]; then echo 'field 2 is "0", expected a sample rate from 1 to 4294967295'
+    elif [ "$volume" = 0 ]; then echo 'field 3 is "0", expected a volume from 1 to 255'
+    elif [ -n "$index" ]; then echo "field 4 is \"$index\", expected a step index from 0 to 88"
+    else echo "expected a sample rate and a volume above 0, a step index up to 88, and at most 4294967295 samples"
+    fi
+}
+
+# A refusal of a file.
+file_refusal() { # NUMBER [VALUE..]
+    case $1 in
+    4) echo "the file is refused (4): it is shorter than its header of 16 bytes" ;;
+    5) echo "the file is refused (5): it does not begin with SQV4" ;;
+    6) echo "the file is refused (6): byte 4, the version, is ${2-}, expected 1, 2 or 3" ;;
+    7) echo "the file is refused (7): byte 5, the variant, is ${2-}, expected 0 (H), 1 (L) or 2 (L+)" ;;
+    8) echo "the file is refused (8): byte 6, the number of channels, is ${2-}, expected 1 or 2" ;;
+    9) echo "the file is refused (9): byte 7, the reserved byte, is ${2-}, expected 0" ;;
+    10) echo "the file is refused (10): the sample rate, bytes 8 to 11, is 0" ;;
+    11) echo "the file is refused (11): it has ${3-} bytes, expected ${2-} of its header" ;;
+    12) echo "the file is refused (12): a fragment's step index is ${2-}, expected 0 to 88" ;;
+    13) echo "the file is refused (13): bits behind a fragment's last code are not 0" ;;
+    20) echo "line 1 is refused (20): $(term_at_fault)" ;;
+    21) echo "refused (21): the file would be longer than 1048576 bytes" ;;
+    *) echo "refused with number $1" ;;
+    esac
+}
+
+# The words of a closing line `bad,..` or `refused,..`.
+refusal() { # LINE
+    local word values
+    IFS=, read -r word values <<< "$1"
+    IFS=, read -r -a values <<< "$values"
+    case $word:$crate:${values[1]-} in
+    refused:*) file_refusal "${values[@]}" ;;
+    bad:s3w2_load:*) load_refusal "${values[@]}" ;;
+    bad:sqv4_make:*)
+        if [ "${values[0]}" = 1 ]; then malformed_line terms 1 'no line of terms (17)'
+        else malformed_line sample "${values[0]}" 'no sample (17)'
+        fi
+        ;;
+    bad:*:17) malformed_line log "${values[0]}" 'no line of a log (17)' ;;
+    bad:*:27) unmapped_line "${values[0]}" ;;
+    bad:*) echo "line ${values[0]} is refused with number ${values[1]-}" ;;
+    esac
+}
