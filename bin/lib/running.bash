@@ -137,7 +137,7 @@ ended() {
        cannot "it ended with status $status" ;;
     esac
     case $closing in
-    bad,* | refused,*)
+    bad,* | refused,* | 'too long')
         say "$(refusal "$closing")"
         exit 1
         ;;
