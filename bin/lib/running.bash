@@ -87,9 +87,10 @@ open_input() {
 # Starts the program on one input, or on several FILEs one behind the other.
 start() {
     if [ ${#files[@]} -eq 0 ]; then
-        "$binary" <&4 >&7 3>&- 4<&- 7>&- 8<&- &
+        "$binary" "${options[@]}" <&4 >&7 3>&- 4<&- 7>&- 8<&- &
     else
-        { cat -- "${files[@]}" <&4 || [ $? -gt 128 ] || kill -s USR1 $$; } 3>&- 7>&- 8<&- | "$binary" >&7 3>&- 4<&- 7>&- 8<&- &
+        { cat -- "${files[@]}" <&4 || [ $? -gt 128 ] || kill -s USR1 $$; } 3>&- 7>&- 8<&- |
+            "$binary" "${options[@]}" >&7 3>&- 4<&- 7>&- 8<&- &
     fi
     program=$!
 }
