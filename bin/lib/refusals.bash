@@ -67,7 +67,38 @@ unmapped_line() { # NUMBER
     echo "line $1 names register $address in its field 2, expected 0 to 2303"
 }
 
-# A field of a state's line. The head has three fields, a voice line 282 and the queued samples.
+# Of a state that can be read again, the first line, from 0, whose field number FIELD is at fault, and that field: the lines before the one
+# that was refused are good.
+state_line_at_fault() { # FIELD
+    [ ${#shown[@]} -gt 0 ] || return
+    cat -- "${shown[@]}" 2>/dev/null | LC_ALL=C tr '\000' '?' | FIELD=$1 LC_ALL=C awk -F, '
+        BEGIN {
+            at = ENVIRON["FIELD"] + 0
+            split("7 65535 5 255 255 6 7 1 65535 65535 16777215 16777215 16777215 255 7 1 18446744073709551615 34359738367 4294967295" \
+                " s 65280 s 65535 3 255", most, " ")
+        }
+        line == 0 && /^[FRP]/ { next }
+        line > 8 || fault() { exit }
+        { if (line++ == 0) version = $2 }
+        END { if (found) { value = $at; gsub(/[^ -~]/, "?", value); printf "%d\n%s\n%s\n", line, NF < at ? "short" : "there", substr(value, 1, 40) } }
+        function above(size, top) { return length(size) > length(top) || (length(size) == length(top) && (size "") > (top "")) }
+        function wrong(value, top,    size) {
+            size = value
+            if (top == "s") { top = sub(/^-/, "", size) ? 32768 : 32767; if (value == "-0") return 1 }
+            return size !~ /^(0|[1-9][0-9]*)$/ || above(size, top)
+        }
+        function isLength(value,    n) { for (n = 256; n <= 16777216; n *= 2) if (value == n "") return 1; return 0 }
+        function fault(    top) {
+            if (line == 0) found = at == 1 ? $1 != "S3W2" : at == 2 ? wrong($2, 4) : at == 3 ? NF >= 3 && !isLength($3) : NF >= 4
+            else {
+                top = at > 282 ? "s" : at == 282 ? 2048 : at > 25 ? 255 : at == 3 && version < 2 ? 4 : most[at]
+                found = NF < at ? at <= 282 + $282 : at > 282 + $282 || wrong($at, top)
+            }
+            return found
+        }'
+}
+
+# What was expected of a field of a state's line. The head has three fields, a voice line 282 and the queued samples.
 state_field() { # FIELD
     local names=('a channel from 0 to 7' 'a frequency from 0 to 65535' 'a waveform from 0 to 5 (to 4 under V1 and V2)' 'a volume from 0 to 255'
         'a panpot from 0 to 255' 'a modulation type from 0 to 6' 'a modulation target from 0 to 7' 'a targeting mode, 0 or 1'
@@ -84,7 +115,16 @@ state_field() { # FIELD
     elif [ "$field" -eq 282 ]; then voice='a queue count from 0 to 2048'
     else voice="queued sample $((field - 282)) from -32768 to 32767, or the end of the line behind the last one"
     fi
-    if [ "$field" -le 4 ]; then
+    local fault line
+    mapfile -t fault < <(state_line_at_fault "$field")
+    if [ ${#fault[@]} -eq 3 ]; then
+        line="field $field of its line $((fault[0] + 1)), "
+        if [ "${fault[0]}" -eq 0 ]; then line+="the head"; voice=${head[field - 1]-}; else line+="a voice line"; fi
+        case ${fault[1]} in
+        short) echo "$line: it is missing, expected $voice" ;;
+        *) echo "$line: it is \"${fault[2]}\", expected $voice" ;;
+        esac
+    elif [ "$field" -le 4 ]; then
         echo "field $field of its first bad line: expected ${head[field - 1]} where that is the head, $voice where it is a voice line"
     else
         echo "field $field of its first bad voice line: expected $voice"
@@ -97,10 +137,16 @@ load_refusal() { # NUMBER [VALUE]
     1,) echo "the state is refused (1): fewer than 65536 bytes of RAM follow its voice lines" ;;
     22,) echo "the state is refused (22): its head is that of a RAM of another length than 65536" ;;
     23,) echo "the state is refused (23): a voice line under V1 or V2 has a held sample, hold, sub-tick, latch or queue count that is not 0" ;;
-    16,17 | 16,27) echo "refused: either the state, with 16 at $(state_field "$2"); or line 16 of the log behind it, with $2" ;;
+    16,17 | 16,27)
+        # field 17 or 27 of the state, or line 16 of the log: the input tells, where it can be read again
+        if [ -n "$(state_line_at_fault "$2")" ]; then echo "the state is refused (16) at $(state_field "$2")"
+        elif [ ${#shown[@]} -gt 0 ]; then load_refusal '16 ' "$2"
+        else echo "refused: either the state, with 16 at $(state_field "$2"); or line 16 of the log behind it, with $2"
+        fi
+        ;;
     16,*) echo "the state is refused (16) at $(state_field "$2")" ;;
-    *,17) echo "line $1 of the log behind the state is no line of a log (17)" ;;
-    *,27) echo "line $1 of the log behind the state names a register above 2303, the last one (27)" ;;
+    *,17) echo "line ${1% } of the log behind the state is no line of a log (17)" ;;
+    *,27) echo "line ${1% } of the log behind the state names a register above 2303, the last one (27)" ;;
     *) echo "the state is refused with number $1" ;;
     esac
 }
@@ -127,7 +173,7 @@ file_refusal() { # NUMBER [VALUE..]
     8) echo "the file is refused (8): byte 6, the number of channels, is ${2-}, expected 1 or 2" ;;
     9) echo "the file is refused (9): byte 7, the reserved byte, is ${2-}, expected 0" ;;
     10) echo "the file is refused (10): the sample rate, bytes 8 to 11, is 0" ;;
-    11) echo "the file is refused (11): it has ${3-} bytes, expected ${2-} of its header" ;;
+    11) echo "the file is refused (11): it has ${3-} bytes, and its header says ${2-}" ;;
     12) echo "the file is refused (12): a fragment's step index is ${2-}, expected 0 to 88" ;;
     13) echo "the file is refused (13): bits behind a fragment's last code are not 0" ;;
     20) echo "line 1 is refused (20): $(term_at_fault)" ;;
