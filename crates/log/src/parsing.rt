@@ -1,7 +1,7 @@
 // A line, without its closing byte 10, taken apart.
 ghost use mathlib.Core.Path.{_≡_};
-ghost use Rattle.log.specs.Lines.{Within, oneAt, twoAt, isMapped, addressed, asWrite, writtenRam, readOf, peekOf, clockOf, asVersion, parsedLine};
-ghost use Rattle.log.specs.Lines.{numberOf};
+ghost use Rattle.log.specs.Lines.{Within, oneAt, twoAt, isMapped, addressed, asWrite, writtenRam, readOf, peekOf, clockOf};
+ghost use Rattle.log.specs.Lines.{asVersion, parsedLine, numberOf};
 ghost use lib.ListN.{getD};
 use crate::Line;
 use crate::One;

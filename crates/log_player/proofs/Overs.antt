@@ -1,5 +1,5 @@
--- Frames ahead of the clamp. Clamped, what `clock_mixed_into_i32` adds over zeros is what `clock_mixed` gives, so the `F` lines are its values as they
--- stand; and no value passes 131,072, so no peak does. Assumes nothing beyond the ranges that the types give.
+-- Frames ahead of the clamp. Clamped, what `clock_mixed_into_i32` adds over zeros is what `clock_mixed` gives, so the `F` lines are its
+-- values as they stand; and no value passes 131,072, so no peak does. Assumes nothing beyond the ranges that the types give.
 use mathlib.Core.Path.{_≡_, refl, sym, ap, ap₂, _∙_, subst}
 use mathlib.Core.Bool.{Bool, true, false, cond}
 use mathlib.Core.List.{List, [], _∷_, _++_}
@@ -98,7 +98,8 @@ module _ (version : SguVersion) (ram : List ℕ) (queues : List ℤ) (m : Mix) w
   first true plus = refl
   first false plus = refl
 
-  next : (right : Bool) (plus : ℤ → ℤ → ℤ) (n : ℕ) → sideOf right (mixes plus (suc n)) ≡ added plus (sideOf right (mixes plus n)) n (sum right (mixes plus n .core))
+  next : (right : Bool) (plus : ℤ → ℤ → ℤ) (n : ℕ)
+      → sideOf right (mixes plus (suc n)) ≡ added plus (sideOf right (mixes plus n)) n (sum right (mixes plus n .core))
   unfolding mixed
   next true plus n = refl
   next false plus n = refl
@@ -116,12 +117,15 @@ module _ (version : SguVersion) (ram : List ℕ) (queues : List ℤ) (m : Mix) w
       behind plus zero i h = ap (λ (l : List ℤ). getD l i (pos 0)) (first right plus) ∙ silence i
       behind plus (suc n) i h =
           ap (λ (l : List ℤ). getD l i (pos 0)) (next right plus n)
-          ∙ getD-set-other (held plus n) n i (plus (getD (held plus n) n (pos 0)) (sum right (mixes plus n .core))) (pos 0) (λ e. absurd (omega arith))
+          ∙ getD-set-other (held plus n) n i (plus (getD (held plus n) n (pos 0)) (sum right (mixes plus n .core))) (pos 0)
+          (λ e. absurd (omega arith))
           ∙ behind plus n i (omega arith)
 
       module _ (bytes : EachByte ram) (entries : FitEntries queues) (w : Well version (length ram) (m .core)) where
         -- the frame behind n others
-        one : (n : ℕ) → Over (wrapping (getD (held wrapping n) n (pos 0)) (sum right (mixes wrapping n .core))) (saturating (getD (held saturating n) n (pos 0)) (sum right (mixes saturating n .core)))
+        one : (n : ℕ)
+            → Over (wrapping (getD (held wrapping n) n (pos 0)) (sum right (mixes wrapping n .core)))
+            (saturating (getD (held saturating n) n (pos 0)) (sum right (mixes saturating n .core)))
         one n = (
           ap clamp16 is ∙ clamped-sum z f
               ∙ ap (λ (x : ℤ). saturatingAdd x (clamp16 z)) (sym (behind saturating n n (omega arith)))
@@ -144,7 +148,8 @@ module _ (version : SguVersion) (ram : List ℕ) (queues : List ℤ) (m : Mix) w
             (ap clamp16 e ∙ sym (behind saturating 0 i (omega arith)), subst Frame (sym e) nothing)
         over (suc n) i =
             subst (λ (l : List ℤ). Over (getD l i (pos 0)) (getD (held saturating (suc n)) i (pos 0))) (sym (next right wrapping n))
-            (subst (λ (l : List ℤ). Over (getD (added wrapping (held wrapping n) n (sum right (mixes wrapping n .core))) i (pos 0)) (getD l i (pos 0))) (sym (next right saturating n))
+            (subst (λ (l : List ℤ). Over (getD (added wrapping (held wrapping n) n (sum right (mixes wrapping n .core))) i (pos 0)) (getD l i (pos 0)))
+            (sym (next right saturating n))
             (set-both Over (held wrapping n) (held saturating n) n _ _ (long wrapping n ∙ sym (long saturating n)) (over n) (one n) i))
 
 -- ---- the sides of a C line: `wide` by `clock_mixed_into_i32`, `given` by `clock_mixed`
@@ -193,7 +198,8 @@ module _ (chip : Chip) (ram : List ℕ) (queues : List ℤ) (fits : FitChip chip
   pair right e =
       let m = mix (chip .core) zeros zeros in
       let k = min (length zeros) (length zeros) in
-      let o = over (chip .version) ram queues m right (start-silence right) bytes entries (chip-well chip ram queues (accepted _ _ _ e) fits bytes entries) k in
+      let w = chip-well chip ram queues (accepted _ _ _ e) fits bytes entries in
+      let o = over (chip .version) ram queues m right (start-silence right) bytes entries w k in
       record {
         long = long (chip .version) ram queues m right wrapping k ∙ sym (long (chip .version) ram queues m right saturating k);
         clamped = λ i. o i .0;
@@ -203,18 +209,24 @@ module _ (chip : Chip) (ram : List ℕ) (queues : List ℤ) (fits : FitChip chip
   -- turned away, both sides stay
   either : (b : Bool) (wide given : List ℤ) → (b ≡ true → Overs wide given) → Overs (cond b wide zeros) (cond b (cond b given zeros) zeros)
   either true wide given h = h refl
-  either false wide given h = record { long = refl; clamped = λ i. ap clamp16 (silence i) ∙ sym (silence i); frames = λ i. subst Frame (sym (silence i)) nothing }
+  either false wide given h = record {
+    long = refl;
+    clamped = λ i. ap clamp16 (silence i) ∙ sym (silence i);
+    frames = λ i. subst Frame (sym (silence i)) nothing;
+  }
 
   pub left-over : Overs (leftSide chip ram queues zeros zeros) (clockMixedLeft chip ram queues zeros zeros)
   unfolding mixedLeft clockMixedLeft
   left-over =
-      subst (λ (l : List ℤ). Overs (leftSide chip ram queues zeros zeros) (cond lent (mixedLeft saturating chip ram queues l l) zeros)) (sym cleared)
+      subst (λ (l : List ℤ). Overs (leftSide chip ram queues zeros zeros) (cond lent (mixedLeft saturating chip ram queues l l) zeros))
+      (sym cleared)
       (either lent (after false wrapping) (after false saturating) (pair false))
 
   pub right-over : Overs (rightSide chip ram queues zeros zeros) (clockMixedRight chip ram queues zeros zeros)
   unfolding mixedRight clockMixedRight
   right-over =
-      subst (λ (l : List ℤ). Overs (rightSide chip ram queues zeros zeros) (cond lent (mixedRight saturating chip ram queues l l) zeros)) (sym cleared)
+      subst (λ (l : List ℤ). Overs (rightSide chip ram queues zeros zeros) (cond lent (mixedRight saturating chip ram queues l l) zeros))
+      (sym cleared)
       (either lent (after true wrapping) (after true saturating) (pair true))
 
 -- ---- THE LINES: `F` lines print what `clock_mixed` gives, as it stands
@@ -226,10 +238,12 @@ lines-stay : (l r left right : List ℤ) → Overs l left → Overs r right → 
 unfolding frameLines plainLines
 lines-stay l r left right a b zero = refl
 lines-stay l r left right a b (suc n) =
-    ap₂ (λ (x y : List ℕ). x ++ y) (lines-stay l r left right a b n) (ap₂ (λ (x y : ℤ). pairLine (70 ∷ []) x y) (a .clamped n) (b .clamped n))
+    ap₂ (λ (x y : List ℕ). x ++ y) (lines-stay l r left right a b n)
+    (ap₂ (λ (x y : ℤ). pairLine (70 ∷ []) x y) (a .clamped n) (b .clamped n))
 
 -- ---- THE PEAKS: at most 131,072
-peak-within : (before b : ℕ) (side : List ℤ) → before ≤ b → ((i : ℕ) → natAbs (getD side i (pos 0)) ≤ b) → (n : ℕ) → peakOf before side n ≤ b
+peak-within : (before b : ℕ) (side : List ℤ) → before ≤ b → ((i : ℕ) → natAbs (getD side i (pos 0)) ≤ b) → (n : ℕ)
+    → peakOf before side n ≤ b
 unfolding peakOf
 peak-within before b side h f zero = h
 peak-within before b side h f (suc n) = omega (arith, peak-within before b side h f n, f n)
@@ -248,7 +262,9 @@ module _ (p : Player) (ram : List ℕ) (queues : List ℤ) (fits : FitChip (p .c
   frames-stay =
       let l = left-over (p .chip) ram queues fits bytes entries n in
       let r = right-over (p .chip) ram queues fits bytes entries n in
-      lines-stay _ _ _ _ l r _ ∙ ap₂ (λ (a b : ℕ). plainLines (clockMixedLeft (p .chip) ram queues zeros′ zeros′) (clockMixedRight (p .chip) ram queues zeros′ zeros′) (min a b)) (l .long) (r .long)
+      let left = clockMixedLeft (p .chip) ram queues zeros′ zeros′ in
+      let right = clockMixedRight (p .chip) ram queues zeros′ zeros′ in
+      lines-stay _ _ left right l r _ ∙ ap₂ (λ (a b : ℕ). plainLines left right (min a b)) (l .long) (r .long)
 
   pub left-peak : p .left ≤ 131072 → clockedPlayer p ram queues zeros′ zeros′ .left ≤ 131072
   unfolding clockedPlayer

@@ -22,7 +22,6 @@ use Rattle.s3w2.proofs.Kept.{FitChip}
 use Rattle.log.specs.declared.Line.{Line}
 use Rattle.log.specs.declared.Line.the-variants.{Write, WriteRam, Read, Peek, Clock, Version, Malformed, Unmapped}
 use Rattle.log.specs.Lines.{parsedLine}
-use Rattle.log.proofs.Bytes.{line-fits}
 use Rattle.plain_chip.specs.Lists.{Every}
 use Rattle.slots.specs.Good.{SlotOk, FitChannel}
 use Rattle.chip_as_slots.specs.Whole.{slotAt}
@@ -32,22 +31,24 @@ use Rattle.log_player.specs.Worlds.{World, freshWorld}
 use Rattle.log_player.specs.Applied.{silent, effectOf, afterLine, printed}
 use Rattle.log_player.proofs.Overs.{plainLines, frames-stay, left-peak, right-peak}
 use Rattle.chip_calls.specs.Ties.{Machine}
-use Rattle.chip_calls.proofs.Every.{tied}
 use Rattle.resume.proofs.Steps.{HeldMachine}
 use Rattle.log_resume.specs.Cuts.{Playable, played, machineOf}
-use Rattle.log_resume.proofs.Lines.{callOf, call-fits, next-same}
 use Rattle.log_resume.proofs.Fresh.{fresh-held}
-use Rattle.log_resume.proofs.Cuts.{held-played}
+use Rattle.log_resume.proofs.Cuts.{held-line, held-played}
 
 -- ---- what holds of each part of a list holds of the list
-module _ {A : Type 0} (P : A → Type 0) (d : A) (none : P d) (l : List A) (size count : ℕ) (some : 0 < size) (long : length l ≡ count * size) where
+module _
+    {A : Type 0} (P : A → Type 0) (d : A) (none : P d) (l : List A) (size count : ℕ) (some : 0 < size) (long : length l ≡ count * size) where
   each-part : ((j : ℕ) → j < count → (i : ℕ) → P (getD (part l (j * size) size) i d)) → (i : ℕ) → P (getD l i d)
   each-part h i =
       elim (decLe (length l) i) [
         | yes e ↦ subst P (sym (List·getD-eq-default l d e)) none
-        | no e ↦ subst P (there ∙ ap (λ (k : ℕ). getD l k d) (N.div-add-mod' i size)) (h (i / size) (N.div-lt-iff-lt-mul some .1 (subst (λ (k : ℕ). i < k) long (omega arith))) (i % size))
+        | no e ↦ subst P (there ∙ ap (λ (k : ℕ). getD l k d) (N.div-add-mod' i size)) (h (i / size) (few (omega arith)) (i % size))
       ]
     where
+      few : i < length l → i / size < count
+      few g = N.div-lt-iff-lt-mul some .1 (subst (λ (k : ℕ). i < k) long g)
+
       there : getD (part l (i / size * size) size) (i % size) d ≡ getD l (i / size * size + i % size) d
       there = getD-take size (drop (i / size * size) l) (i % size) d (N.mod-lt i some) ∙ getD-drop (i / size * size) l (i % size) d
 
@@ -59,15 +60,25 @@ module _ (m : Machine) (h : HeldMachine m) where
   pub fits-held : FitChip (m .chip)
   fits-held = record {
     sized = h .sized;
-    bytes = each-part (λ (b : ℕ). b < 256) 0 (omega arith) (m .chip .core .wavetables) wavetableSize numChannels (omega arith) (h .sized .wavetables) (λ j l. voice-ok j l .bytes .each);
+    bytes =
+        each-part (λ (b : ℕ). b < 256) 0 (omega arith) (m .chip .core .wavetables) wavetableSize numChannels (omega arith) (h .sized .wavetables)
+        (λ j l. voice-ok j l .bytes .each);
     fits = λ j l.
         let f = voice-ok j l .fits in
-        record { oscillator = f .oscillator; fifo = f .fifo; volume = omega (arith, f .registers .volume); panpot = omega (arith, f .registers .panpot); frequency = f .registers .frequency };
+        record {
+          oscillator = f .oscillator;
+          fifo = f .fifo;
+          volume = omega (arith, f .registers .volume);
+          panpot = omega (arith, f .registers .panpot);
+          frequency = f .registers .frequency;
+        };
   }
 
   pub entries-held : FitEntries (m .queues)
   entries-held = record {
-    each = each-part (λ (z : ℤ). SFits w16 z) (pos 0) (fit w16 (pos 0) (omega arith) (omega arith)) (m .queues) fifoCapacity numChannels (omega arith) (h .long) (λ j l. voice-ok j l .entries .each);
+    each =
+        each-part (λ (z : ℤ). SFits w16 z) (pos 0) (fit w16 (pos 0) (omega arith) (omega arith)) (m .queues) fifoCapacity numChannels (omega arith)
+        (h .long) (λ j l. voice-ok j l .entries .each);
   }
 
 -- ---- one line
@@ -84,17 +95,22 @@ line-peaks w h (Peek a) p = p
 line-peaks w h (Clock n) p =
     let f = fits-held (machineOf w) h in
     let q = entries-held (machineOf w) h in
-    record { left = left-peak (w .player) (w .ram) (w .queues) f (h .good .bytes .each) q n (p .left); right = right-peak (w .player) (w .ram) (w .queues) f (h .good .bytes .each) q n (p .right) }
+    let b = h .good .bytes .each in
+    record {
+      left = left-peak (w .player) (w .ram) (w .queues) f b q n (p .left);
+      right = right-peak (w .player) (w .ram) (w .queues) f b q n (p .right);
+    }
 line-peaks w h (Version v) p = record { left = p .left; right = p .right }
 line-peaks w h Malformed p = p
 line-peaks w h Unmapped p = p
 
 -- ---- THE PEAKS of a log: after lines that are not bad, one after the other
-lines-peaks : (lines : List (List ℕ)) (w : World) → HeldMachine (machineOf w) → Every Playable lines → Peaks (w .player) → Peaks (played w lines .player)
+lines-peaks : (lines : List (List ℕ)) (w : World) → HeldMachine (machineOf w) → Every Playable lines → Peaks (w .player)
+    → Peaks (played w lines .player)
 lines-peaks [] w h f p = p
 lines-peaks (line ∷ lines) w h f p =
     let l = parsedLine line in
-    lines-peaks lines (afterLine w l) (subst HeldMachine (sym (next-same w l (f .0 .played))) (tied (machineOf w) h (callOf l) (call-fits l (line-fits line)) .held)) (f .1) (line-peaks w h l p)
+    lines-peaks lines (afterLine w l) (held-line line w h (f .0)) (f .1) (line-peaks w h l p)
 
 pub peaks-within : (lines : List (List ℕ)) → Every Playable lines → Peaks (played freshWorld lines .player)
 peaks-within lines f = lines-peaks lines freshWorld fresh-held f (record { left = omega arith; right = omega arith })
