@@ -1,6 +1,6 @@
 -- A good world is accepted: no call on it is turned away for its RAM, its queue buffer or its state. Assumes nothing.
-use mathlib.Core.Path.{_≡_, refl, sym, ap, _∙_}
-use mathlib.Core.Bool.{Bool, true, false, cond, _&&_}
+use mathlib.Core.Path.{_≡_, refl, sym}
+use mathlib.Core.Bool.{Bool, true, cond}
 use mathlib.Core.List.{List}
 use Prim.Native.Nat.{ℕ, _*_, _≤_}
 use native.Mathlib.Omega.{arith}
@@ -9,53 +9,16 @@ use lib.IntN.{ℤ}
 use lib.ListN.{length}
 use borrow.Author.Tests.{eq-eqb}
 use Rattle.sizes.specs.Sizes.{queueBuffer, stemsPerFrame}
-use Rattle.num.proofs.Choice.{both, together}
 use Rattle.tone.specs.Pcm.{isRamLength}
-use Rattle.version.specs.declared.SguVersion.{SguVersion}
-use Rattle.registers.specs.Waveforms.{isSqv4}
-use Rattle.stream.specs.Accepted.{acceptsCache}
-use Rattle.stream.proofs.Accepts.{accepted-as, as-accepted}
-use Rattle.voice.specs.Accepted.{acceptsStream, AcceptedChannel}
-use Rattle.voice.specs.declared.Channel.{Channel}
-use Rattle.voices.specs.Core.{channelAt}
 use Rattle.voices.specs.Accepted.{SizedCore, AcceptedCore}
-use Rattle.voices.proofs.Accepting.{accepted-core, core-accepted}
-use Rattle.session_lines.proofs.Heads.{ram-small}
+use Rattle.voices.proofs.Accepting.{accepted-core}
 use Rattle.s3w2.specs.declared.Chip.{Chip}
 use Rattle.s3w2.specs.declared.Answer.the-variants.{Done, StemBuffer}
 use Rattle.s3w2.specs.Refusals.{acceptsChip, refusal, ownRefusal, ramRefusal, queuesRefusal, soundRefusal, clockRefusal}
+use Rattle.s3w2.proofs.Longer.{ram-small, longer}
 use Rattle.s3w2.proofs.Refused.{nothing-amiss}
 use Rattle.chip_as_slots.proofs.Frames.{ok-at}
 use Rattle.chip_calls.specs.Ties.{GoodMachine}
-
--- ---- a longer RAM
-stream-longer : (c : Channel) (n m : ℕ) → n ≤ m → acceptsStream c n ≡ true → acceptsStream c m ≡ true
-unfolding acceptsStream
-stream-longer c n m h e = go (c .stream .valid) refl
-  where
-    start : ℕ
-    start = c .pcm .«start_addr»
-
-    end : ℕ
-    end = c .pcm .«end_addr»
-
-    test : ℕ → Bool
-    test l = isSqv4 (c .registers .«waveform_type») && acceptsCache (c .stream) start end l
-
-    go : (b : Bool) → c .stream .valid ≡ b → cond (c .stream .valid) (test m) true ≡ true
-    go true v =
-        let a = both (isSqv4 (c .registers .«waveform_type»)) (acceptsCache (c .stream) start end n) (sym (ap (λ (b : Bool). cond b (test n) true) v) ∙ e) in
-        let w = accepted-as (c .stream) start end n (a .1) v in
-        ap (λ (b : Bool). cond b (test m) true) v
-        ∙ together _ _ (a .0) (as-accepted (c .stream) start end m (record { variant = w .variant; held = w .held; range = (w .range .0, omega (arith, w .range .1)); fit = w .fit }))
-    go false v = ap (λ (b : Bool). cond b (test m) true) v
-
-channel-longer : (c : Channel) (version : SguVersion) (n m : ℕ) → n ≤ m → AcceptedChannel c version n → AcceptedChannel c version m
-channel-longer c version n m h a = record { registers = a .registers; pcm = a .pcm; oscillator = a .oscillator; fifo = a .fifo; stream = stream-longer c n m h (a .stream) }
-
--- ---- an accepted state is one over a longer RAM too
-longer : (chip : Chip) (n m : ℕ) → n ≤ m → AcceptedCore (chip .core) (chip .version) n → acceptsChip chip m ≡ true
-longer chip n m h a = core-accepted (chip .core) (chip .version) m (record { sized = a .sized; each = λ j l. channel-longer (channelAt (chip .core) j) (chip .version) n m h (a .each j l) })
 
 pub accepts-largest : (chip : Chip) (ram : List ℕ) → isRamLength (length ram) ≡ true → SizedCore (chip .core) → acceptsChip chip (length ram) ≡ true → acceptsChip chip 16777216 ≡ true
 accepts-largest chip ram allowed sized e = longer chip (length ram) 16777216 (ram-small (length ram) allowed) (accepted-core (chip .core) (chip .version) (length ram) sized e)

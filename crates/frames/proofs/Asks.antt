@@ -1,18 +1,19 @@
 -- What turns ask for, test by test. Assumes nothing.
-use mathlib.Core.Path.{_≡_, refl}
-use mathlib.Core.Bool.{true, false}
+use mathlib.Core.Path.{_≡_, refl, sym, ap, _∙_}
+use mathlib.Core.Bool.{Bool, true, false}
 use mathlib.Core.List.{List}
-use Prim.Native.Nat.{ℕ, _≤_, _<_}
+use Prim.Native.Nat.{ℕ, _*_, _≤_, _<_}
 use lib.Dec.{eqb, leb}
 use lib.ListN.{length}
 use lib.IntN.{ℤ}
 use borrow.Author.Tests.{leb-true, eqb-true, le-leb, lt-leb, eq-eqb, ne-eqb}
-use Rattle.sizes.specs.Sizes.{queueBuffer}
-use Rattle.num.proofs.Choice.{both}
+use Rattle.sizes.specs.Sizes.{queueBuffer, stemsPerFrame}
+use Rattle.num.proofs.Choice.{both, never}
 use Rattle.version.specs.declared.SguVersion.{SguVersion}
 use Rattle.voice.proofs.Tests.{fails, passes, first-arm, second-arm}
 use Rattle.voices.specs.Accepted.{acceptsCore}
 use Rattle.voices.specs.declared.Core.{Core}
+use Rattle.frames.specs.Listing.{Listed, listed, framesAsked, EachAccepted, callCount, mayPlay, playedOf}
 use Rattle.frames.specs.Turning.{noTurn, turned, mayRun, runOf}
 
 module _ (version : SguVersion) (ram : List ℕ) (queues : List ℤ) (n : ℕ) (core : Core) where
@@ -54,3 +55,30 @@ module _ (version : SguVersion) (ram : List ℕ) (queues : List ℤ) (n : ℕ) (
   pub refused : (first k : ℕ) → mayRun version ram queues n core ≡ false → noTurn core ≡ runOf version ram queues first n k core
   unfolding runOf
   refused first k e = second-arm _ (turned version ram queues first n k core) (noTurn core) e
+
+-- ---- what a list asks for
+module _ (kinds addresses : List ℕ) (stems : ℕ) (s : Listed) where
+  abbrev count : ℕ
+  count = callCount kinds addresses (s .values)
+
+  abbrev enough : Bool
+  enough = eqb stems (stemsPerFrame * framesAsked kinds addresses 0 (callCount kinds addresses (s .values)))
+
+  pub may-play : mayRun (s .version) (s .ram) (s .queues) 4 (s .core) ≡ true → eqb stems (stemsPerFrame * framesAsked kinds addresses 0 (callCount kinds addresses (s .values))) ≡ mayPlay kinds addresses stems s
+  unfolding mayPlay
+  may-play h = passes _ enough h refl
+
+  pub may-not : mayRun (s .version) (s .ram) (s .queues) 4 (s .core) ≡ false → false ≡ mayPlay kinds addresses stems s
+  unfolding mayPlay
+  may-not h = fails _ enough h
+
+  pub opened : mayPlay kinds addresses stems s ≡ true → (n : ℕ) → n ≡ callCount kinds addresses (s .values) → listed kinds addresses 0 4 0 n s ≡ playedOf kinds addresses stems s
+  unfolding playedOf
+  opened h n e = ap (λ (k : ℕ). listed kinds addresses 0 4 0 k s) e ∙ first-arm _ (listed kinds addresses 0 4 0 count s) s h
+
+  pub shut : mayPlay kinds addresses stems s ≡ false → s ≡ playedOf kinds addresses stems s
+  unfolding playedOf
+  shut h = second-arm _ (listed kinds addresses 0 4 0 count s) s h
+
+  pub never-each : (n : ℕ) → mayPlay kinds addresses stems s ≡ false → mayPlay kinds addresses stems s ≡ true → EachAccepted kinds addresses 0 4 0 n s
+  never-each n h g = never (sym g ∙ h)

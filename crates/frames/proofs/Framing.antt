@@ -1,6 +1,6 @@
 -- Turns in two parts, turns round and round, and frames as turns. Assumes nothing.
 use mathlib.Core.Path.{_≡_, refl, sym, ap, _∙_}
-use mathlib.Core.List.{List, [], _++_, append-assoc}
+use mathlib.Core.List.{List, _++_, append-assoc}
 use Prim.Native.Nat.{ℕ, zero, suc, _+_, _*_, _%_}
 use native.Mathlib.Nat as N
 use native.Mathlib.Omega.{arith}
@@ -71,4 +71,4 @@ module _ (version : SguVersion) (ram : List ℕ) (queues : List ℤ) (core : Cor
       more m = omega arith
 
   pub frames-long : (m : ℕ) → length (frames version ram queues m core .stems) ≡ 16 * m
-  frames-long m = ap (λ (t : Turns). length (t .stems)) (sym (frames-turns m)) ∙ done-long version ram queues 0 4 core [] (8 * m) ∙ omega arith
+  frames-long m = ap (λ (t : Turns). length (t .stems)) (sym (frames-turns m)) ∙ done-long version ram queues 0 4 core (8 * m) ∙ omega arith

@@ -13,3 +13,7 @@ pub mod Wells
 pub mod Heard
 pub mod OneVoice
 pub mod Endings
+pub mod Counts
+pub mod Playing
+pub mod Calling
+pub mod Runs

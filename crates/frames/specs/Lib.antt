@@ -1,5 +1,7 @@
 pub mod Ticking
 pub mod Turning
+pub mod Listing
+pub mod Stored
 pub mod Values
 pub mod Ending
 pub mod Kept

@@ -1,92 +1,197 @@
-// Turns of one voice after another.
+// Turns of one voice after another, and calls between them.
 ghost use mathlib.Core.Path.{_≡_};
-ghost use mathlib.Core.Bool.{true};
+ghost use mathlib.Core.Bool.{true, false};
 ghost use mathlib.Core.List.{[], _∷_};
-ghost use Prim.Native.Nat.{_+_, _*_, _/_, _≤_, _<_};
+ghost use Prim.Native.Nat.{_+_, _*_, _/_, _-_, _≤_, _<_};
 ghost use lib.ListN.{length};
 ghost use lib.Seq.{sets};
 ghost use mir.Syntax.{w16};
 ghost use mir.Val.{SFits};
-ghost use Rattle.sizes.specs.Sizes.{queueBuffer};
-ghost use Rattle.voices.specs.Accepted.{acceptsCore};
+ghost use Rattle.sizes.specs.Sizes.{queueBuffer, stemsPerFrame};
+ghost use Rattle.voices.specs.Accepted.{acceptsCore, AcceptedCore};
 ghost use Rattle.frames.specs.Turning.{turned, mayRun, runOf, afterTurns};
+ghost use Rattle.frames.specs.Listing.{lentList, clockTurns, listed, framesAsked, EachAccepted, AllStore};
+use crate::Asked;
+use crate::Going;
 use crate::Round;
 use crate::Turned;
+use crate::asking::asked;
+use crate::asking::look_empties;
+use sizes::FIFO_CAPACITY;
 use sizes::QUEUE_BUFFER;
 use ticks::Sides;
 use version::SguVersion;
 use voice::Kind;
 use voices::Core;
 
-fn put_sides(stems: &mut [i16], k: usize, sides: Sides)
-    requires { ⌜ 2 * k + 1 < length (now stems) ⌝ ∗ ⌜ SFits w16 (sides .left) × SFits w16 (sides .right) ⌝ }
-    ensures { λ _. ⌜ now (stems .exit) ≡ sets (now (stems .entry)) (2 * k) (sides .left ∷ sides .right ∷ []) ⌝ }
+fn put_sides(stems: &mut [i16], at: usize, sides: Sides)
+    requires { ⌜ at + 1 < length (now stems) ⌝ ∗ ⌜ SFits w16 (sides .left) × SFits w16 (sides .right) ⌝ }
+    ensures { λ _. ⌜ now (stems .exit) ≡ sets (now (stems .entry)) at (sides .left ∷ sides .right ∷ []) ⌝ }
 {
-    stems[2 * k] = sides.left as i16;
-    stems[2 * k + 1] = sides.right as i16;
+    stems[at] = sides.left as i16;
+    stems[at + 1] = sides.right as i16;
 }
 
-// A stream's cache is stored only where its ticks may have changed it. Where not every tick was served the voice is read anew:
-// ticks that are served then read no more of it than they use.
-fn turns(
+// Some turns, then the calls of a list from `from` to before `to`, none of which writes to the RAM: a clock of m frames is 8 m
+// turns. The eight voices stay in one place. A stream's cache is stored only where its ticks may have changed it. Where not
+// every tick was served the voice is read anew: ticks that are served then read no more of it than they use.
+pub(crate) fn play_calls(
     core: Core,
     of: Round,
     n: usize,
+    turns: usize,
+    kinds: &[u8],
+    addresses: &[u32],
+    values: &mut [u8],
+    from: usize,
+    to: usize,
     ram: &[u8],
     queues: &mut [i16],
     stems: &mut [i16],
-) -> Turned
-    requires { ⌜ (1 ≤ n) × (n ≤ 4) ⌝ ∗ ⌜ length (now queues) ≡ queueBuffer ⌝ ∗ ⌜ acceptsCore core (of .version) (length (now ram)) ≡ true ⌝ }
-    ensures result { λ r. ⌜ r ≡ afterTurns
-        (turned (of .version) (now (ram .entry)) (now (queues .entry)) (of .first) n (length (now (stems .entry)) / 2) core) ⌝ }
+    at: usize,
+) -> Going
+    requires { ⌜ (1 ≤ n) × (n ≤ 4) ⌝ ∗ ⌜ length (now queues) ≡ queueBuffer ⌝ ∗ ⌜ acceptsCore core (of .version) (length (now ram)) ≡ true ⌝
+        ∗ ⌜ (to ≤ length (now kinds)) × (to ≤ length (now addresses)) × (to ≤ length (now values))
+        × (at + (2 * turns + stemsPerFrame * framesAsked (now kinds) (now addresses) from (to - from)) ≤ length (now stems)) ⌝
+        ∗ ⌜ AllStore (now kinds) (now addresses) false from to ⌝ }
+    ensures core { λ r. ⌜ r .core
+        ≡ listed (now (kinds .entry)) (now (addresses .entry)) (of .first) n from (to - from)
+        (clockTurns (of .first) n turns (lentList core (of .version) (now (ram .entry)) (now (queues .entry)) (now (values .entry)))) .core ⌝ }
+    ensures version { λ r. ⌜ r .version
+        ≡ listed (now (kinds .entry)) (now (addresses .entry)) (of .first) n from (to - from)
+        (clockTurns (of .first) n turns (lentList core (of .version) (now (ram .entry)) (now (queues .entry)) (now (values .entry)))) .version ⌝ }
+    ensures queues { λ _. ⌜ now (queues .exit)
+        ≡ listed (now (kinds .entry)) (now (addresses .entry)) (of .first) n from (to - from)
+        (clockTurns (of .first) n turns (lentList core (of .version) (now (ram .entry)) (now (queues .entry)) (now (values .entry)))) .queues ⌝ }
+    ensures values { λ _. ⌜ now (values .exit)
+        ≡ listed (now (kinds .entry)) (now (addresses .entry)) (of .first) n from (to - from)
+        (clockTurns (of .first) n turns (lentList core (of .version) (now (ram .entry)) (now (queues .entry)) (now (values .entry)))) .values ⌝ }
     ensures stems { λ _. ⌜ now (stems .exit)
-        ≡ sets (now (stems .entry)) 0
-        (turned (of .version) (now (ram .entry)) (now (queues .entry)) (of .first) n (length (now (stems .entry)) / 2) core .stems) ⌝ }
-    ensures { λ r. ⌜ acceptsCore (r .core) (of .version) (length (now (ram .entry))) ≡ true ⌝ }
-    ensures queues { λ _. ⌜ now (queues .exit) ≡ now (queues .entry) ⌝ }
+        ≡ sets (now (stems .entry)) at
+        (listed (now (kinds .entry)) (now (addresses .entry)) (of .first) n from (to - from)
+        (clockTurns (of .first) n turns (lentList core (of .version) (now (ram .entry)) (now (queues .entry)) (now (values .entry)))) .stems) ⌝ }
+    ensures at { λ r. ⌜ r .at
+        ≡ at + (2 * turns + stemsPerFrame * framesAsked (now (kinds .entry)) (now (addresses .entry)) from (to - from)) ⌝ }
+    ensures sample { λ r. ⌜ (to ≤ from → r .sample
+        ≡ turned (of .version) (now (ram .entry)) (now (queues .entry)) (of .first) n turns core .sample) ⌝ }
+    ensures { λ r. ⌜ AcceptedCore (r .core) (r .version) (length (now (ram .entry))) ⌝ }
+    ensures { λ _. ⌜ EachAccepted (now (kinds .entry)) (now (addresses .entry)) (of .first) n from (to - from)
+        (clockTurns (of .first) n turns (lentList core (of .version) (now (ram .entry)) (now (queues .entry)) (now (values .entry)))) ⌝ }
+    ensures { λ _. ⌜ (length (now (queues .exit)) ≡ length (now (queues .entry))) × (length (now (values .exit)) ≡ length (now (values .entry))) ⌝ }
 {
+    let first = of.first;
     let mut core = core;
+    let mut version = of.version;
     let mut sides = Sides::silent();
-    for k in 0..stems.len() / 2 {
-        let ch = of.channel(k);
-        match core.channels[ch].kind() {
-            Kind::Silent => sides = Sides::silent(),
-            Kind::Oscillator => {
-                let c = core.channels[ch];
-                let a = c.target_channel(ch);
-                let t = of.target(core.channels[a]);
-                let v = of.oscillator(c, n, &core.wavetables, ram, ch, t);
-                core.channels[ch] = c.after_sound(v);
-                sides = v.sides;
-            }
-            Kind::Sqv4 => {
-                let c = core.channels[ch];
-                let r = of.served(c, n, &core.fragments, ch);
-                if r.ticks == n {
-                    core.channels[ch] = c.after_served(r);
-                    sides = r.sides;
-                } else {
-                    let d = core.channels[ch];
-                    let v = of.stream(d, n, &mut core.fragments, ram, ch, r);
-                    core.channels[ch] = d.after_stream(v);
+    let mut place = at;
+    let mut i = from;
+    let mut turn: usize = 0;
+    let mut stop = turns;
+    loop {
+        if turn < stop {
+            let of = Round { version, first };
+            let ch = of.channel(turn);
+            match core.channels[ch].kind() {
+                Kind::Silent => sides = Sides::silent(),
+                Kind::Oscillator => {
+                    let c = core.channels[ch];
+                    let a = c.target_channel(ch);
+                    let t = of.target(core.channels[a]);
+                    let v = of.oscillator(c, n, &core.wavetables, ram, ch, t);
+                    core.channels[ch] = c.after_sound(v);
+                    sides = v.sides;
+                }
+                Kind::Sqv4 => {
+                    let c = core.channels[ch];
+                    let r = of.served(c, n, &core.fragments, ch);
+                    if r.ticks == n {
+                        core.channels[ch] = c.after_served(r);
+                        sides = r.sides;
+                    } else {
+                        let d = core.channels[ch];
+                        let v = of.stream(d, n, &mut core.fragments, ram, ch, r);
+                        core.channels[ch] = d.after_stream(v);
+                        sides = v.sides;
+                    }
+                }
+                Kind::FifoDac => {
+                    let c = core.channels[ch];
+                    let v = of.queue(c, n, &mut *queues, ch);
+                    core.channels[ch] = c.after_queue(v);
                     sides = v.sides;
                 }
             }
-            Kind::FifoDac => {
-                let c = core.channels[ch];
-                let v = of.queue(c, n, &mut *queues, ch);
-                core.channels[ch] = c.after_queue(v);
-                sides = v.sides;
+            put_sides(&mut *stems, place, sides);
+            place += 2;
+            turn += 1;
+        } else {
+            if to <= i {
+                let sample = sides.sample;
+                return Going {
+                    core,
+                    version,
+                    at: place,
+                    sample,
+                };
             }
+            turn = 0;
+            stop = 0;
+            let kind = kinds[i];
+            let address = addresses[i];
+            match asked(kind) {
+                Asked::WritePcmRam => {}
+                Asked::WriteRegister => {
+                    let value = values[i];
+                    if address < 0x800 {
+                        core.wavetables[address as usize] = value;
+                    } else if address < 0x900 {
+                        let ch = voices::channel_of(address);
+                        let offset = voices::offset_of(address);
+                        let start = ch * FIFO_CAPACITY;
+                        let end = start + FIFO_CAPACITY;
+                        let c = core.channels[ch];
+                        let d = voices::write_at(
+                            c,
+                            version,
+                            &mut queues[start..end],
+                            offset,
+                            value,
+                        );
+                        core.channels[ch] = d;
+                        if voices::empties(offset) {
+                            voices::clear_fragments(&mut core.fragments, ch);
+                        }
+                    }
+                }
+                Asked::Look => {
+                    let ch = voices::channel_of(address);
+                    let c = core.channels[ch];
+                    values[i] = voices::seen(c, version, &core.wavetables, address);
+                    if look_empties(kind, address) {
+                        core.channels[ch] = c.after_read(0x0A);
+                        voices::clear_fragments(&mut core.fragments, ch);
+                    }
+                }
+                Asked::Clock => stop = 8 * (address as usize),
+                Asked::SetVersion => {
+                    version = SguVersion::numbered(address as u64);
+                    core = core.set_version(version);
+                }
+                Asked::Nothing => {}
+            }
+            i += 1;
         }
-        put_sides(&mut *stems, k, sides);
     }
-    let sample = sides.sample;
-    Turned { core, sample }
 }
 
 // What turns ask for: 16,384 queue entries, one to four ticks, accepted voices.
-fn may_run(core: Core, version: SguVersion, ram: &[u8], queues: &[i16], ticks: usize) -> bool
+pub(crate) fn may_run(
+    core: Core,
+    version: SguVersion,
+    ram: &[u8],
+    queues: &[i16],
+    ticks: usize,
+) -> bool
     ensures { λ r. ⌜ r ≡ mayRun version (now (ram .entry)) (now (queues .entry)) ticks core ⌝ }
 {
     if queues.len() != QUEUE_BUFFER {
@@ -123,7 +228,28 @@ pub fn run(
 {
     if may_run(core, version, ram, &*queues, ticks) {
         let of = Round { version, first };
-        return turns(core, of, ticks, ram, queues, stems);
+        let kinds = [0u8];
+        let addresses = [0u32];
+        let mut values = [0u8];
+        let turns = stems.len() / 2;
+        let p = play_calls(
+            core,
+            of,
+            ticks,
+            turns,
+            &kinds,
+            &addresses,
+            &mut values,
+            0,
+            0,
+            ram,
+            queues,
+            stems,
+            0,
+        );
+        let core = p.core;
+        let sample = p.sample;
+        return Turned { core, sample };
     }
     Turned { core, sample: 0 }
 }

@@ -21,7 +21,8 @@ use Rattle.sides.specs.Sides.{wrapping}
 use Rattle.s3w2.specs.Mixing.{mixedI32Called, mixedLeft, mixedRight}
 use Rattle.log_player.specs.declared.Player.{Player}
 use Rattle.log_player.specs.Worlds.{World, withChip}
-use Rattle.log_player.specs.Applied.{byteAnswered, clockedPlayer, clockedText, silent, effectOf, afterLine, printed}
+use Rattle.s3w2.specs.Answers.{byteAnswered}
+use Rattle.log_player.specs.Applied.{clockedPlayer, clockedText, silent, effectOf, afterLine, printed}
 
 -- what `apply` promises
 abbrev pub Applied : World → Line → Player → List ℕ → List ℤ → List ℕ → List ℕ → ℕ → ℕ → Type 0

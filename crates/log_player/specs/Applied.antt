@@ -8,8 +8,7 @@ use Rattle.log.specs.declared.Line.{Line}
 use Rattle.log.specs.declared.Line.the-variants.{Write, WriteRam, Read, Peek, Clock, Version, Malformed, Unmapped}
 use Rattle.log.specs.Texts.{frameLines, readBackLine, peakOf}
 use Rattle.s3w2.specs.declared.Chip.{Chip}
-use Rattle.s3w2.specs.declared.Answer.{Answer}
-use Rattle.s3w2.specs.declared.Answer.the-variants.{Done, Byte, Sample, Count, Flag, Ended, RamLength, QueueBuffer, NotAccepted, StemBuffer}
+use Rattle.s3w2.specs.Answers.{byteAnswered}
 use Rattle.s3w2.specs.Fresh.{setVersionCalled}
 use Rattle.s3w2.specs.Ram.{writePcmRamCalled, writePcmRamRam}
 use Rattle.s3w2.specs.Registers.{writeRegisterCalled, writeRegisterBuffer, readRegisterCalled, peekRegisterAnswer}
@@ -17,19 +16,6 @@ use Rattle.sides.specs.Sides.{wrapping}
 use Rattle.s3w2.specs.Mixing.{mixedI32Called, mixedLeft, mixedRight}
 use Rattle.log_player.specs.declared.Player.{Player}
 use Rattle.log_player.specs.Worlds.{World, world, withChip}
-
--- the byte that a call answers; 0 where it was turned away
-abbrev pub byteAnswered : Answer → ℕ
-byteAnswered (Byte x) = x
-byteAnswered Done = 0
-byteAnswered (Sample x e) = 0
-byteAnswered (Count x) = 0
-byteAnswered (Flag x) = 0
-byteAnswered (Ended s) = 0
-byteAnswered RamLength = 0
-byteAnswered QueueBuffer = 0
-byteAnswered NotAccepted = 0
-byteAnswered StemBuffer = 0
 
 -- ---- frames added to two sides, not clamped
 module _ (chip : Chip) (ram : List ℕ) (queues left right : List ℤ) where

@@ -16,7 +16,8 @@ use Rattle.s3w2.specs.declared.Answer.{Answer}
 use Rattle.s3w2.specs.declared.Answer.the-variants.{Done, Byte, Sample, Count, Flag, Ended, RamLength, QueueBuffer, NotAccepted, StemBuffer}
 use Rattle.s3w2.specs.Registers.{readRegisterCalled, peekRegisterAnswer}
 use Rattle.log_player.specs.Worlds.{World}
-use Rattle.log_player.specs.Applied.{byteAnswered, silent, clockedPlayer, clockedText, effectOf, afterLine, printed}
+use Rattle.s3w2.specs.Answers.{byteAnswered}
+use Rattle.log_player.specs.Applied.{silent, clockedPlayer, clockedText, effectOf, afterLine, printed}
 use Rattle.call_lists.specs.Calls as list
 use Rattle.call_lists.specs.Calls.{Call, Reply}
 use Rattle.call_lists.specs.Seen.{FitCall}

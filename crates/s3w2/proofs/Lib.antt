@@ -5,6 +5,8 @@ pub mod Chunks
 pub mod Mixes
 pub mod Kept
 pub mod Listed
+pub mod Longer
+pub mod Plays
 pub mod Bounds
 pub mod Ranges
 pub mod Endings

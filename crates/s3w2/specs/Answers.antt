@@ -20,6 +20,19 @@ numberOf QueueBuffer = 2 ∷ []
 numberOf NotAccepted = 3 ∷ []
 numberOf StemBuffer = 14 ∷ []
 
+-- the byte that a call answers; 0 where it answers none
+abbrev pub byteAnswered : Answer → ℕ
+byteAnswered (Byte x) = x
+byteAnswered Done = 0
+byteAnswered (Sample x e) = 0
+byteAnswered (Count x) = 0
+byteAnswered (Flag x) = 0
+byteAnswered (Ended x) = 0
+byteAnswered RamLength = 0
+byteAnswered QueueBuffer = 0
+byteAnswered NotAccepted = 0
+byteAnswered StemBuffer = 0
+
 -- whether a call may go on
 abbrev pub isDone : Answer → Bool
 isDone Done = true

@@ -6,6 +6,7 @@ pub mod Ram
 pub mod Channels
 pub mod Registers
 pub mod Lists
+pub mod Plays
 pub mod Sound
 pub mod Mixing
 pub mod Marked

@@ -1,5 +1,6 @@
 pub mod Parts
 pub mod Storing
+pub mod Seeing
 pub mod Chosen
 pub mod Loops
 pub mod Widths

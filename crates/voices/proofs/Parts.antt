@@ -5,7 +5,7 @@ use Prim.Native.Nat.{ℕ, zero, suc, _+_, _-_, _≤_}
 use native.Mathlib.Omega.{arith}
 use native.Mathlib.Nat.{le-add-right, add-zero, add-suc, suc-add}
 use lib.ListN.{length, take, drop, set, getD, replicate}
-use lib.Seq.{sets, sets-eq}
+use lib.Seq.{sets, sets-eq, set-out}
 use borrow.Rule.Slice.PartMut.{putMid, post-is}
 
 -- a part that comes back from a call
@@ -13,6 +13,11 @@ pub put-part : {A : Type 0} (l ys : List A) (a n : ℕ) → a + n ≤ length l �
 put-part {A} l ys a n r e =
     ap (λ (z : List A). take a l ++ (ys ++ z)) (post-is a (a + n) l (le-add-right a n) ∙ ap (λ (m : ℕ). drop (a + m) l) (sym e))
     ∙ sym (append-assoc (take a l) ys (drop (a + length ys) l)) ∙ sym (sets-eq ys l a (omega arith))
+
+-- past the end nothing is stored
+pub sets-past : {A : Type 0} (l : List A) (i : ℕ) (vs : List A) → length l ≤ i → sets l i vs ≡ l
+sets-past l i [] h = refl
+sets-past l i (v ∷ vs) h = ap (λ m. sets m (suc i) vs) (set-out l i v h) ∙ sets-past l (suc i) vs (omega arith)
 
 -- one more of the same
 pub sets-more : {A : Type 0} (x : A) (i : ℕ) (l : List A) (a : ℕ) → set (sets l a (replicate i x)) (a + i) x ≡ sets l a (replicate (suc i) x)

@@ -1,5 +1,6 @@
 -- What is read, and what reading makes of the core. A channel above 7 reads 0.
 use mathlib.Core.Bool.{Bool, false, cond}
+use mathlib.Core.List.{List}
 use Prim.Native.Nat.{ℕ, _+_}
 use lib.Dec.{eqb, ltb}
 use lib.ListN.{getD}
@@ -8,6 +9,7 @@ use Rattle.version.specs.Versions.{has3ws8pna, hasSampleControl, interpolates, 
 use Rattle.version.specs.declared.SguVersion.{SguVersion}
 use Rattle.registers.specs.Pcm.{readPcm}
 use Rattle.voice.specs.Reads.{readControl, afterRead}
+use Rattle.voice.specs.declared.Channel.{Channel}
 use Rattle.voices.specs.Addresses.{channelOf, offsetOf, byAddress}
 use Rattle.voices.specs.Core.{channelAt, storedChannel}
 use Rattle.voices.specs.declared.Core.{Core}
@@ -32,6 +34,14 @@ readWavetable k at = getD (k .wavetables) at 0
 unfoldable pub peekRegister : SguVersion → Core → ℕ → ℕ
 peekRegister version k address =
     byAddress address (readWavetable k address) (readChannelControl version k (channelOf address) (offsetOf address)) 0
+
+-- the same from the channel whose block the address lies in, and the wavetables
+unfoldable pub seenAt : SguVersion → Channel → List ℕ → ℕ → ℕ
+seenAt version c wavetables address = byAddress address (getD wavetables address 0) (readControl version c (offsetOf address)) 0
+
+-- whether reading there empties a cache
+unfoldable pub readEmpties : ℕ → Bool
+readEmpties address = byAddress address false (eqb (offsetOf address) 10) false
 
 unfoldable pub afterReadRegister : Core → ℕ → Core
 afterReadRegister k address =

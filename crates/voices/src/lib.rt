@@ -10,7 +10,14 @@ mod writes;
 
 pub use activity::actives;
 pub use activity::ended;
+pub use addresses::channel_of;
+pub use addresses::offset_of;
+pub use lists::empties;
+pub use lists::write_at;
+pub use reads::read_empties;
+pub use reads::seen;
 use sizes::WAVETABLES_SIZE;
+pub use stored::clear_fragments;
 use voice::Channel;
 
 // A voice's decoded fragments are the 128 samples from 128 times the channel on, its wavetable the 256 bytes from 256 times

@@ -15,7 +15,7 @@ use version::SguVersion;
 use voice::Channel;
 
 // A write at a block's offset; the channel is lent its own part of the queue buffer.
-pub(crate) fn write_at(
+pub fn write_at(
     c: Channel,
     version: SguVersion,
     queue: &mut [i16],
@@ -34,7 +34,7 @@ pub(crate) fn write_at(
 }
 
 // Whether such a write empties the cache.
-pub(crate) fn empties(offset: u8) -> bool
+pub fn empties(offset: u8) -> bool
     ensures { λ r. ⌜ r ≡ blockEmpties offset ⌝ }
 {
     if offset < 0x10 {

@@ -1,6 +1,7 @@
 // Reads at the registers' addresses.
 ghost use mathlib.Core.Path.{_≡_};
 ghost use Rattle.voices.specs.Reads.{readChannelControl, readChannelPcmReg, afterReadChannel, readWavetable, peekRegister};
+ghost use Rattle.voices.specs.Reads.{seenAt, readEmpties};
 ghost use Rattle.voices.specs.Reads.{afterReadRegister, wavetableLength, interpolatesAt};
 use crate::Core;
 use crate::addresses::channel_of;
@@ -8,6 +9,33 @@ use crate::addresses::offset_of;
 use sizes::NUM_CHANNELS;
 use sizes::WAVETABLES_SIZE;
 use version::SguVersion;
+use voice::Channel;
+
+// What a register reads, by its address: `c` is the channel whose block the address lies in.
+pub fn seen(c: Channel, version: SguVersion, wavetables: &[u8; WAVETABLES_SIZE], address: u32) -> u8
+    ensures { λ r. ⌜ r ≡ seenAt version c (now (wavetables .entry)) address ⌝ }
+{
+    if address < 0x800 {
+        return wavetables[address as usize];
+    }
+    if address < 0x900 {
+        return c.read_control(version, offset_of(address));
+    }
+    0
+}
+
+// Whether reading a register empties a stream's cache.
+pub fn read_empties(address: u32) -> bool
+    ensures { λ r. ⌜ r ≡ readEmpties address ⌝ }
+{
+    if address < 0x800 {
+        return false;
+    }
+    if address < 0x900 {
+        return offset_of(address) == 0x0A;
+    }
+    false
+}
 
 impl Core {
     // The byte at an offset, as peeking shows it.

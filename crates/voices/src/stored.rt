@@ -5,19 +5,22 @@ ghost use lib.ListN.{length};
 ghost use Rattle.sizes.specs.Sizes.{numChannels};
 ghost use Rattle.voices.specs.Core.{noFragments, storedChannel};
 use crate::Core;
+use sizes::NUM_CHANNELS;
 use voice::Channel;
 
 fn clear_part(samples: &mut [i16], ch: usize)
-    requires { ⌜ (ch < numChannels) × (length (now samples) ≡ 1024) ⌝ }
+    requires { ⌜ length (now samples) ≡ 1024 ⌝ }
     ensures { λ _. ⌜ now (samples .exit) ≡ noFragments ch (now (samples .entry)) ⌝ }
 {
-    let from = ch * 128;
-    let to = from + 128;
-    stream::clear(&mut samples[from..to]);
+    if ch < NUM_CHANNELS {
+        let from = ch * 128;
+        let to = from + 128;
+        stream::clear(&mut samples[from..to]);
+    }
 }
 
-pub(crate) fn clear_fragments(samples: &mut [i16; 1024], ch: usize)
-    requires { ⌜ ch < numChannels ⌝ }
+// The decoded fragments of a voice, zeros; a channel above 7 has none.
+pub fn clear_fragments(samples: &mut [i16; 1024], ch: usize)
     ensures { λ _. ⌜ now (samples .exit) ≡ noFragments ch (now (samples .entry)) ⌝ }
 {
     clear_part(samples, ch);

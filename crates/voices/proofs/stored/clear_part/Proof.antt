@@ -1,4 +1,11 @@
 use borrow.Author.Needs.{needs}
+use mathlib.Core.Path.{sym}
+use Prim.Native.Nat.{_*_}
+use native.Mathlib.Omega.{arith}
+use lib.IntN.{pos}
+use lib.ListN.{replicate}
+use Rattle.voices.specs.Core.{noFragments}
+use Rattle.voices.proofs.Parts.{sets-past}
 use Rattle.voices.proofs.Storing.{cleared}
 use Rattle.voices.proofs.stored.clear_part.Statement.{statement}
 use Rattle.voices.proofs.stored.clear_part.Tie as tie
@@ -29,8 +36,12 @@ same-length c = search needs
 
 returns : tie.Need-returns
 returns c =
-    let a = c .before .before .before .args in
-    cleared (a .samples .now) (c .before .clear .last .0) (a .ch) (c .before .before .before .pre .0) (c .before .before .before .pre .1) (c .before .clear .ensures)
+    let a = c .before .before .before .before .args in
+    cleared (a .samples .now) (c .before .clear .last .0) (a .ch) (c .before .before .before .if1 .taken) (c .before .before .before .before .pre) (c .before .clear .ensures)
+
+returns-2 : tie.Need-returns-2
+unfolding noFragments
+returns-2 c = let a = c .before .args in sym (sets-past (a .samples .now) (a .ch * 128) (replicate 128 (pos 0)) (omega (arith, c .if1 .left, c .before .pre)))
 
 pub clear-part-spec : {M : Type 1} → statement M
 clear-part-spec =
@@ -44,4 +55,5 @@ clear-part-spec =
     part-clear-end
     clear-requires
     same-length
-    returns)
+    returns
+    returns-2)
