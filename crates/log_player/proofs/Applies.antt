@@ -19,6 +19,7 @@ use Rattle.s3w2.specs.Ram.{writePcmRamCalled, writePcmRamRam}
 use Rattle.s3w2.specs.Registers.{writeRegisterCalled, writeRegisterBuffer, readRegisterCalled, peekRegisterAnswer}
 use Rattle.sides.specs.Sides.{wrapping}
 use Rattle.s3w2.specs.Mixing.{mixedI32Called, mixedLeft, mixedRight}
+use Rattle.log_player.specs.declared.Made.{Made}
 use Rattle.log_player.specs.declared.Player.{Player}
 use Rattle.log_player.specs.Worlds.{World, withChip}
 use Rattle.s3w2.specs.Answers.{byteAnswered}
@@ -83,6 +84,10 @@ module _ (w : World) (line : Line) (p : Player) (out now : List ℕ) (at end : �
   pub clock-line : (n : ℕ) (queues : List ℤ) → line ≡ Clock n → p ≡ clockedPlayer (w .player) (w .ram) (w .queues) (silent n) (silent n) → queues ≡ w .queues → Put out now at (clockedText (w .player .chip) (w .ram) (w .queues) (silent n) (silent n)) end × (length (clockedText (w .player .chip) (w .ram) (w .queues) (silent n) (silent n)) ≤ 16000) → Applied w line p (w .ram) queues out now at end
   unfolding effectOf
   clock-line n queues e h q t = equal w line (Clock n) p (w .ram) queues out now at end e (h, (refl, (q, t)))
+
+-- ---- a fresh player, and what making its chip answered
+abbrev pub made : Called → Made
+made called = record { player = record { chip = called .chip; left = 0; right = 0 }; answer = called .answer }
 
 -- ---- frames
 abbrev pub played : Called → ℕ → ℕ → Player

@@ -7,23 +7,26 @@ use native.Mathlib.Numerals.{add-one}
 use native.Mathlib.Omega.{arith}
 use lib.Dec.{eqb, leb}
 use lib.IntN.{ℤ}
-use lib.ListN.{length, drop, length-append}
+use lib.ListN.{length, drop, getD, length-append}
 use lib.Seq.{sets}
+use borrow.Author.Tests.{eq-eqb, ne-eqb}
 use types.Run.{OneOf, miss}
 use denote.Enum.Declared.{tagOf}
 use Rattle.decimal.specs.Written.{Put}
 use Rattle.decimal.proofs.Writing.{put-append, put-none}
 use Rattle.log.specs.declared.Line.the-variants.{Malformed}
 use Rattle.log.specs.Lines.{parsedLine, badNumber, isBad}
+use Rattle.s3w2.specs.Answers.{numberOf}
+use Rattle.s3w2.specs.Refusals.{soundRefusal}
 use Rattle.log_player.proofs.Next.{the-type}
 use Rattle.log_player.specs.declared.Player.{Player}
 use Rattle.log_player.specs.declared.Ran.{Ran}
 use Rattle.log_player.specs.declared.Next.{Next}
-use Rattle.log_player.specs.declared.Next.the-variants.{Line, Rest, Bad}
+use Rattle.log_player.specs.declared.Next.the-variants.{Line, Rest, Bad, Refused}
 use Rattle.log_player.specs.Worlds.{World, world}
 use Rattle.log_player.specs.Applied.{afterLine, printed}
 use Rattle.log_player.specs.Steps.{firstLine, nextOf}
-use Rattle.log_player.specs.Runs.{hasRoom, Spot, spot, spotBehind, isLine, Run, stopText, stopsAt, runFrom, ranTo, ranAs}
+use Rattle.log_player.specs.Runs.{hasRoom, Spot, spot, spotBehind, isLine, Run, stopText, stopsAt, runFrom, refusedBy, logRun, ranTo, ranAs}
 use Rattle.log_player.specs.Bursts.{Bursts}
 use Rattle.log_player.proofs.Stops.{Steps}
 use Rattle.log_player.proofs.Spots.{plays-line, plays-none, plays-full, found-there, found-full, run-next, run-stops}
@@ -107,10 +110,11 @@ module _ (input : List ℕ) (run : Run) (a : World) (line place end e : ℕ) (ou
           ∙ ap (stopsAt (here (r .text))) (found-there (length out) input (here (r .text)) (roomy r) ∙ n)
 
   -- by its tag
-  pub running-stop : (next : Next) → OneOf (1 ∷ 2 ∷ []) (tagOf the-type next) → Running input run a line place out mid end → nextOf rest place ≡ next → Steps a line next (firstLine rest) next p ram queues mid now end e → Promised run ram queues out now (ranAs p next place line e)
-  running-stop (Line k) t r n s = absurd (miss (1 ∷ 2 ∷ []) 0 tt t)
+  pub running-stop : (next : Next) → OneOf (1 ∷ 2 ∷ 3 ∷ []) (tagOf the-type next) → Running input run a line place out mid end → nextOf rest place ≡ next → Steps a line next (firstLine rest) next p ram queues mid now end e → Promised run ram queues out now (ranAs p next place line e)
+  running-stop (Line k) t r n s = absurd (miss (1 ∷ 2 ∷ 3 ∷ []) 0 tt t)
   running-stop Rest t r n s = done Rest r refl n (s .1 .0) (s .1 .1 .0) (s .1 .1 .1 .0) (s .1 .1 .1 .1 .0) (s .1 .1 .1 .1 .1)
   running-stop (Bad why) t r n s = done (Bad why) r refl n (s .1 .0) (s .1 .1 .0) (s .1 .1 .1 .0) (s .1 .1 .1 .1 .0) (s .1 .1 .1 .1 .1)
+  running-stop (Refused why) t r n s = done (Refused why) r refl n (s .1 .0) (s .1 .1 .0) (s .1 .1 .1 .0) (s .1 .1 .1 .1 .0) (s .1 .1 .1 .1 .1)
 
 -- where there is no room, it ends too
 pub running-full : (input : List ℕ) (run : Run) (p : Player) (ram : List ℕ) (queues : List ℤ) (line place end : ℕ) (out mid : List ℕ) → hasRoom (length out) end line ≡ false → Running input run (world p ram queues) line place out mid end → Promised run ram queues out mid (ranAs p (Line place) place line end)
@@ -167,3 +171,24 @@ pub steps-as : (a : World) (line : ℕ) (n m : Next) (text : List ℕ) (p : Play
 steps-as a line n m text p ram queues mid now end e next k s =
     let q : n ≡ m = sym (s .0) ∙ k in
     (refl, rw q at (s .1))
+
+-- ---- `run`: refused, or not
+pub refused : (p : Player) (ram : List ℕ) (queues : List ℤ) (why : ℕ) → why ≡ getD (numberOf (soundRefusal (p .chip) (length ram) (length queues))) 0 0 → why ≡ refusedBy (world p ram queues)
+unfolding refusedBy
+refused p ram queues why e = e
+
+module _ (out input : List ℕ) (p : Player) (ram : List ℕ) (queues : List ℤ) (number from why : ℕ) (e : why ≡ refusedBy (world p ram queues)) where
+  abbrev start : Spot
+  start = spot (world p ram queues) number from []
+
+  pub run-refused : (r : Ran) → (why ≡ 0 → ⊥) → r ≡ ranAs p (Refused why) from number 0 → Promised (logRun (length out) input start) ram queues out out r
+  unfolding logRun
+  run-refused r n k =
+      subst (λ (v : Run). Promised v ram queues out out r) (sym is) (k, (refl, (refl, (refl, omega arith))))
+    where
+      is : logRun (length out) input start ≡ stopsAt start (Refused why)
+      is = rw (← e, ne-eqb why 0 n)
+
+  pub run-accepted : why ≡ 0 → runFrom (length out) input start ≡ logRun (length out) input start
+  unfolding logRun
+  run-accepted z = rw (eq-eqb (refusedBy (world p ram queues)) 0 (sym e ∙ z))

@@ -11,9 +11,9 @@ use lib.Seq.{drop-drop}
 use borrow.Author.Tests.{eqb-true, eqb-false}
 use Rattle.num.proofs.Choice.{never}
 use Rattle.log.specs.declared.Line.the-variants.{Malformed}
-use Rattle.log.specs.Lines.{parsedLine, badNumber}
+use Rattle.log.specs.Lines.{parsedLine, badNumber, isBad}
 use Rattle.log_player.specs.declared.Next.{Next}
-use Rattle.log_player.specs.declared.Next.the-variants.{Line, Rest, Bad}
+use Rattle.log_player.specs.declared.Next.the-variants.{Line, Rest, Bad, Refused}
 use Rattle.log_player.specs.Worlds.{World}
 use Rattle.log_player.specs.Applied.{afterLine, printed}
 use Rattle.log_player.specs.Logs.{restText}
@@ -40,11 +40,23 @@ line-within rest at e = go (eqb (length (firstLine rest)) (length rest)) refl
         less : {a b : ℕ} → (a ≡ b → ⊥) → a ≤ b → a < b
         less n h = omega arith
 
+-- and is not bad
+pub good-line : (rest : List ℕ) (at : ℕ) → isLine (nextOf rest at) ≡ true → isBad (parsedLine (firstLine rest)) ≡ false
+unfolding nextOf
+good-line rest at e = go (eqb (length (firstLine rest)) (length rest)) (leb (length rest) 16) (isBad (parsedLine (firstLine rest))) refl e
+  where
+    go : (a b m : Bool) → isBad (parsedLine (firstLine rest)) ≡ m → isLine (cond a (cond b Rest (Bad (badNumber Malformed))) (cond m (Bad (badNumber (parsedLine (firstLine rest)))) (Line (at + length (firstLine rest) + 1)))) ≡ true → isBad (parsedLine (firstLine rest)) ≡ false
+    go true true m t h = never (sym h)
+    go true false m t h = never (sym h)
+    go false b true t h = never (sym h)
+    go false b false t h = t
+
 -- a line by its place
 pub line-at : (next : Next) → isLine next ≡ true → (P : Next → Type 0) → ((place : ℕ) → next ≡ Line place → P (Line place)) → P next
 line-at (Line place) e P f = f place refl
 line-at Rest e P f = never (sym e)
 line-at (Bad why) e P f = never (sym e)
+line-at (Refused why) e P f = never (sym e)
 
 module _ (room : ℕ) (input : List ℕ) where
   abbrev holds : Spot → Next

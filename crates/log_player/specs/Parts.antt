@@ -4,10 +4,10 @@ use Prim.Native.Nat.{ℕ, zero, suc}
 use lib.ListN.{length, drop}
 use Rattle.decimal.specs.Written.{each}
 use Rattle.log_player.specs.declared.Next.{Next}
-use Rattle.log_player.specs.declared.Next.the-variants.{Line, Rest, Bad}
+use Rattle.log_player.specs.declared.Next.the-variants.{Line, Rest, Bad, Refused}
 use Rattle.log_player.specs.Worlds.{World}
 use Rattle.log_player.specs.Logs.{endText}
-use Rattle.log_player.specs.Runs.{Run, spot, runFrom}
+use Rattle.log_player.specs.Runs.{Run, spot, logRun}
 
 -- the text of a run before that of the one that follows it
 abbrev pub textBefore : Run → Run → Run
@@ -18,19 +18,21 @@ abbrev pub followed : Next → Run → Run → Run
 followed (Line place) r more = textBefore r more
 followed Rest r more = r
 followed (Bad why) r more = r
+followed (Refused why) r more = r
 
 -- runs over one input, each with an empty text, so many at most behind the first
 unfoldable pub runsOver : ℕ → List ℕ → ℕ → World → ℕ → ℕ → Run
-runsOver room input zero w number from = runFrom room input (spot w number from [])
+runsOver room input zero w number from = logRun room input (spot w number from [])
 runsOver room input (suc n) w number from =
-    let r = runFrom room input (spot w number from []) in
+    let r = logRun room input (spot w number from []) in
     followed (r .next) r (runsOver room input n (r .world) (r .number) (r .from))
 
--- nothing follows a bad line
+-- nothing follows a bad line, or a refusal
 abbrev pub unlessBad : Next → List ℕ → List ℕ
 unlessBad (Line place) text = text
 unlessBad Rest text = text
 unlessBad (Bad why) text = []
+unlessBad (Refused why) text = []
 
 -- what the runs over each part and the closing line print, from a world and a line's number on, where `rest` was left
 unfoldable pub partsPrinted : ℕ → World → ℕ → List ℕ → List (List ℕ) → List ℕ

@@ -3,11 +3,13 @@ use mathlib.Core.Bool.{Bool, true, false, cond}
 use mathlib.Core.List.{List, [], _++_}
 use Prim.Native.Nat.{ℕ, zero, suc, _+_}
 use lib.Dec.{eqb, leb}
-use lib.ListN.{length, drop}
+use lib.ListN.{length, drop, getD}
 use Rattle.log.specs.Lines.{parsedLine}
 use Rattle.log.specs.Texts.{badLine}
+use Rattle.s3w2.specs.Answers.{numberOf}
+use Rattle.s3w2.specs.Refusals.{soundRefusal}
 use Rattle.log_player.specs.declared.Next.{Next}
-use Rattle.log_player.specs.declared.Next.the-variants.{Line, Rest, Bad}
+use Rattle.log_player.specs.declared.Next.the-variants.{Line, Rest, Bad, Refused}
 use Rattle.log_player.specs.declared.Player.{Player}
 use Rattle.log_player.specs.declared.Ran.{Ran}
 use Rattle.log_player.specs.Worlds.{World}
@@ -38,6 +40,7 @@ abbrev pub isLine : Next → Bool
 isLine (Line place) = true
 isLine Rest = false
 isLine (Bad why) = false
+isLine (Refused why) = false
 
 -- what a run that puts its text into a buffer of some length finds at a spot: where there is no room it looks no further
 unfoldable pub foundBy : ℕ → List ℕ → Spot → Next
@@ -60,11 +63,12 @@ pub record Run : Type 0 where
   pub next : Next
   pub text : List ℕ
 
--- a bad line is told
+-- a bad line is told; a refusal prints nothing
 abbrev pub stopText : ℕ → Next → List ℕ
 stopText number (Line place) = []
 stopText number Rest = []
 stopText number (Bad why) = badLine number why
+stopText number (Refused why) = []
 
 abbrev pub stopsAt : Spot → Next → Run
 stopsAt s next = record { world = s .world; number = s .number; from = s .from; next = next; text = s .text ++ stopText (s .number) next }
@@ -74,6 +78,14 @@ unfoldable pub runFrom : ℕ → List ℕ → Spot → Run
 runFrom room input s =
     let last = linesPlayed room input (length input) s in
     stopsAt last (foundBy room input last)
+
+-- ---- `run`: the number with which a call that is lent a world's RAM and queue buffer is refused; 0 where it is not
+unfoldable pub refusedBy : World → ℕ
+refusedBy w = getD (numberOf (soundRefusal (w .player .chip) (length (w .ram)) (length (w .queues)))) 0 0
+
+-- where calls are refused, no line is looked at
+unfoldable pub logRun : ℕ → List ℕ → Spot → Run
+logRun room input s = cond (eqb (refusedBy (s .world)) 0) (runFrom room input s) (stopsAt s (Refused (refusedBy (s .world))))
 
 abbrev pub ranAs : Player → Next → ℕ → ℕ → ℕ → Ran
 ranAs player next from number end = record { player = player; next = next; from = from; number = number; end = end }

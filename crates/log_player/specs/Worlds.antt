@@ -7,6 +7,7 @@ use Rattle.sizes.specs.Sizes.{queueBuffer}
 use Rattle.version.specs.declared.SguVersion.the-variants.{«V3_1»}
 use Rattle.s3w2.specs.declared.Chip.{Chip}
 use Rattle.s3w2.specs.Fresh.{madeCalled}
+use Rattle.log_player.specs.declared.Made.{Made}
 use Rattle.log_player.specs.declared.Player.{Player}
 
 pub record World : Type 0 where
@@ -23,6 +24,10 @@ withChip p chip = record { chip = chip; left = p .left; right = p .right }
 -- a fresh V3.1 chip over a RAM of some length
 abbrev pub freshPlayer : ℕ → Player
 freshPlayer ram = record { chip = madeCalled ram «V3_1» .chip; left = 0; right = 0 }
+
+-- it is given even where the RAM's length is refused, and so is the answer
+unfoldable pub madePlayer : ℕ → Made
+madePlayer ram = record { player = freshPlayer ram; answer = madeCalled ram «V3_1» .answer }
 
 -- document 01's: 65,536 bytes of zeros
 abbrev pub freshWorld : World

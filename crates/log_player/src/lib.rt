@@ -4,6 +4,7 @@ mod playing;
 mod runs;
 mod steps;
 
+use s3w2::Answer;
 use s3w2::Chip;
 pub use steps::line_end;
 
@@ -14,6 +15,12 @@ pub struct Player {
     pub right: u32,
 }
 
+// A fresh player, and what making its chip answered.
+pub struct Made {
+    pub player: Player,
+    pub answer: Answer,
+}
+
 // A player after a line, and the place behind what the line has printed.
 pub struct Played {
     pub player: Player,
@@ -21,11 +28,12 @@ pub struct Played {
 }
 
 // What an input holds at a place: a line, which was played, and the place of the next one; no whole line; a bad line, and the number of
-// why it is one.
+// why it is one. Or the number with which the chip refuses calls over the RAM and the queue buffer that are lent to it.
 pub enum Next {
     Line(usize),
     Rest,
     Bad(u64),
+    Refused(u64),
 }
 
 // A player after a step, and the place behind what the step has printed.

@@ -4,9 +4,10 @@ ghost use Prim.Native.Nat.{_*_, _≤_};
 ghost use lib.ListN.{length};
 ghost use Rattle.decimal.specs.Written.{Put};
 ghost use Rattle.s3w2.specs.Fresh.{madeRam};
-ghost use Rattle.log_player.specs.Worlds.{world, withChip, freshPlayer};
+ghost use Rattle.log_player.specs.Worlds.{world, withChip, madePlayer};
 ghost use Rattle.s3w2.specs.Answers.{byteAnswered};
 ghost use Rattle.log_player.specs.Applied.{clockedPlayer, clockedText, silent, afterLine, printed};
+use crate::Made;
 use crate::Played;
 use crate::Player;
 use log::Line;
@@ -33,17 +34,21 @@ fn byte_of(answer: Answer) -> u8
 }
 
 impl Player {
-    // A fresh V3.1 chip; its RAM is zeroed.
-    pub fn fresh(ram: &mut [u8]) -> Player
-        ensures result { λ r. ⌜ r ≡ freshPlayer (length (now (ram .entry))) ⌝ }
+    // A fresh V3.1 chip; its RAM is zeroed, unless its length is refused.
+    pub fn fresh(ram: &mut [u8]) -> Made
+        ensures result { λ r. ⌜ r ≡ madePlayer (length (now (ram .entry))) ⌝ }
         ensures ram { λ _. ⌜ now (ram .exit) ≡ madeRam (now (ram .entry)) ⌝ }
     {
         let made = Chip::with_version(ram, SguVersion::V3_1);
         let chip = made.chip;
-        Player {
-            chip,
-            left: 0,
-            right: 0,
+        let answer = made.answer;
+        Made {
+            player: Player {
+                chip,
+                left: 0,
+                right: 0,
+            },
+            answer,
         }
     }
 

@@ -3,14 +3,17 @@ ghost use mathlib.Core.Path.{_≡_};
 ghost use mathlib.Core.Bool.{true};
 ghost use mathlib.Core.List.{[]};
 ghost use Prim.Native.Nat.{_+_, _≤_, _<_, _^_};
-ghost use lib.ListN.{length};
+ghost use lib.ListN.{length, getD};
 ghost use lib.Seq.{sets};
+ghost use Rattle.s3w2.specs.Answers.{numberOf};
+ghost use Rattle.s3w2.specs.Refusals.{soundRefusal};
 ghost use Rattle.log_player.specs.Worlds.{world};
-ghost use Rattle.log_player.specs.Runs.{hasRoom, spot, runFrom, ranTo, ranAs};
+ghost use Rattle.log_player.specs.Runs.{hasRoom, spot, runFrom, logRun, ranTo, ranAs};
 use crate::Next;
 use crate::Player;
 use crate::Ran;
 use crate::bursts::begins_write;
+use sizes::QUEUE_BUFFER;
 
 // Room for the text of any line: it has at most 16,000 bytes, of 1,000 frames.
 const ROOM: usize = 16384;
@@ -29,10 +32,60 @@ fn has_room(length: usize, end: usize, number: u64) -> bool
     ROOM <= length - end
 }
 
+// The number with which a call that is lent a RAM and a queue buffer of these lengths is refused; 0 where it is not.
+fn refused_by(player: Player, ram: usize, queues: usize) -> u64
+    ensures { λ r. ⌜ r ≡ getD (numberOf (soundRefusal (player .chip) ram queues)) 0 0 ⌝ }
+{
+    if !tone::is_ram_length(ram) {
+        return 1;
+    }
+    if queues != QUEUE_BUFFER {
+        return 2;
+    }
+    let chip = player.chip;
+    if !chip.accepts(ram) {
+        return 3;
+    }
+    0
+}
+
 impl Player {
     // Plays the lines from `from` on, of which the first is the log's line `number`, and puts what they print into out: until
-    // no whole line is left, a line is bad, or out may have no room for the next line's text.
+    // no whole line is left, a line is bad, or out may have no room for the next line's text. Where the chip refuses calls over
+    // this RAM and queue buffer nothing is played or printed.
     pub fn run(
+        self,
+        input: &[u8],
+        from: usize,
+        number: u64,
+        ram: &mut [u8],
+        queues: &mut [i16],
+        out: &mut [u8],
+    ) -> Ran
+        ensures result { λ r. ⌜ r ≡ ranTo
+            (logRun (length (now (out .entry))) (now (input .entry)) (spot (world self (now (ram .entry)) (now (queues .entry))) number from [])) ⌝ }
+        ensures ram { λ _. ⌜ now (ram .exit)
+            ≡ logRun (length (now (out .entry))) (now (input .entry))
+            (spot (world self (now (ram .entry)) (now (queues .entry))) number from []) .world .ram ⌝ }
+        ensures queues { λ _. ⌜ now (queues .exit)
+            ≡ logRun (length (now (out .entry))) (now (input .entry))
+            (spot (world self (now (ram .entry)) (now (queues .entry))) number from []) .world .queues ⌝ }
+        ensures out { λ _. ⌜ now (out .exit)
+            ≡ sets (now (out .entry)) 0
+            (logRun (length (now (out .entry))) (now (input .entry))
+            (spot (world self (now (ram .entry)) (now (queues .entry))) number from []) .text) ⌝ }
+        ensures bound { λ _. ⌜ length (logRun (length (now (out .entry))) (now (input .entry))
+            (spot (world self (now (ram .entry)) (now (queues .entry))) number from []) .text) ≤ length (now (out .entry)) ⌝ }
+    {
+        let why = refused_by(self, ram.len(), queues.len());
+        if why != 0 {
+            return self.ran(Next::Refused(why), from, number, 0);
+        }
+        self.run_lines(input, from, number, ram, queues, out)
+    }
+
+    // The same where they are not refused.
+    fn run_lines(
         self,
         input: &[u8],
         from: usize,

@@ -3,6 +3,7 @@ use crate::Program;
 use crate::Run;
 use crate::loading::load_state;
 use crate::moving::Input;
+use crate::moving::complain;
 use crate::moving::read_behind;
 use crate::moving::written;
 use crate::saving::save;
@@ -11,9 +12,15 @@ use log_player::Player;
 use log_player::Ran;
 
 // A fresh player, nothing read.
-pub(crate) fn begun(ram: &mut [u8]) -> Run {
+fn begun(program: Program, ram: &mut [u8]) -> Run {
+    let made = Player::fresh(ram);
+    let player = made.player;
+    let answer = made.answer;
+    if answer.number() != 0 {
+        return refused(program, player);
+    }
     Run {
-        player: Player::fresh(ram),
+        player,
         from: 0,
         filled: 0,
         number: 1,
@@ -29,6 +36,12 @@ pub(crate) fn stopped(player: Player) -> Run {
         number: 1,
         going: false,
     }
+}
+
+// The chip refuses calls over the RAM and the queue buffer.
+fn refused(program: Program, player: Player) -> Run {
+    complain(program, b"the chip refuses its buffers\n");
+    stopped(player)
 }
 
 fn loads(program: Program) -> bool {
@@ -123,6 +136,7 @@ fn turn(
         },
         Next::Rest => refilled(program, ran, filled, input, text, ram, queues),
         Next::Bad(_) => stopped(after),
+        Next::Refused(_) => refused(program, after),
     }
 }
 
@@ -134,7 +148,10 @@ fn first(
     ram: &mut [u8],
     queues: &mut [i16],
 ) -> Run {
-    let fresh = begun(&mut *ram);
+    let fresh = begun(program, &mut *ram);
+    if !fresh.going {
+        return fresh;
+    }
     if loads(program) {
         return load_state(program, fresh, input, text, ram, queues);
     }

@@ -93,15 +93,15 @@ halves (line ∷ lines) w rest f =
     ∙ ap (λ (l : List ℕ). l ++ soundsOf (played next lines) [] rest) (sym (sounds-line line w [] (half lines) (f .0 .one) (f .0 .played)))
 
 -- a line leaves a chip that calls can reach
-pub held-line : (line : List ℕ) (w : World) → HeldMachine (machineOf w) → Playable line → HeldMachine (machineOf (afterLine w (parsedLine line)))
-held-line line w h f =
+pub held-line : (line : List ℕ) (w : World) → HeldMachine (machineOf w) → isBad (parsedLine line) ≡ false → HeldMachine (machineOf (afterLine w (parsedLine line)))
+held-line line w h e =
     let l = parsedLine line in
-    subst HeldMachine (sym (next-same w l (f .played))) (tied (machineOf w) h (callOf l) (call-fits l (line-fits line)) .held)
+    subst HeldMachine (sym (next-same w l e)) (tied (machineOf w) h (callOf l) (call-fits l (line-fits line)) .held)
 
 pub held-played : (lines : List (List ℕ)) (w : World) → HeldMachine (machineOf w) → Every Playable lines → HeldMachine (machineOf (played w lines))
 held-played [] w h f = h
 held-played (line ∷ lines) w h f =
-    held-played lines (afterLine w (parsedLine line)) (held-line line w h (f .0)) (f .1)
+    held-played lines (afterLine w (parsedLine line)) (held-line line w h (f .0 .played)) (f .1)
 
 -- THE CUT: a log of lines that are not bad and whatever follows them prints the lines of its first half, and then those that the second half prints
 -- when it is played from the state that the first half leaves.

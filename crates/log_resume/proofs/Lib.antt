@@ -4,3 +4,4 @@ pub mod Cuts
 pub mod Loads
 pub mod Fed
 pub mod Peaks
+pub mod Parts

@@ -110,7 +110,7 @@ lines-peaks : (lines : List (List ℕ)) (w : World) → HeldMachine (machineOf w
 lines-peaks [] w h f p = p
 lines-peaks (line ∷ lines) w h f p =
     let l = parsedLine line in
-    lines-peaks lines (afterLine w l) (held-line line w h (f .0)) (f .1) (line-peaks w h l p)
+    lines-peaks lines (afterLine w l) (held-line line w h (f .0 .played)) (f .1) (line-peaks w h l p)
 
 pub peaks-within : (lines : List (List ℕ)) → Every Playable lines → Peaks (played freshWorld lines .player)
 peaks-within lines f = lines-peaks lines freshWorld fresh-held f (record { left = omega arith; right = omega arith })

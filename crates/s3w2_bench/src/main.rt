@@ -14,27 +14,42 @@ struct Summed {
     right: u64,
 }
 
-// A player after a log, and which of its lines is bad; 0 where none is.
+// A player after a log, and which of its lines is bad; 0 where none is. Where calls are refused nothing was played.
 struct Loaded {
     player: Player,
     bad: u64,
+    refused: bool,
+}
+
+fn refused(player: Player) -> Loaded {
+    Loaded {
+        player,
+        bad: 0,
+        refused: true,
+    }
+}
+
+// `bad` is the line's number, or 0.
+fn bad_line(player: Player, bad: u64) -> Loaded {
+    Loaded {
+        player,
+        bad,
+        refused: false,
+    }
 }
 
 // The end of a log, at `from`: a line that is not closed is malformed.
 fn ended(player: Player, next: Next, from: usize, number: u64, length: usize) -> Loaded {
+    if let Next::Refused(_) = next {
+        return refused(player);
+    }
     let Next::Rest = next else {
-        return Loaded {
-            player,
-            bad: number,
-        };
+        return bad_line(player, number);
     };
     if from < length {
-        return Loaded {
-            player,
-            bad: number,
-        };
+        return bad_line(player, number);
     }
-    Loaded { player, bad: 0 }
+    bad_line(player, 0)
 }
 
 // Plays lines of a text.
@@ -81,7 +96,7 @@ fn load(
         };
         turns -= 1;
     }
-    Loaded { player, bad: 0 }
+    bad_line(player, 0)
 }
 
 // A value in two's complement of 64 bits.
@@ -174,13 +189,25 @@ fn print_bad(number: u64) {
 // A fresh V3.1 chip after a log.
 fn load_fresh(ram: &mut [u8], queues: &mut [i16], text: &[u8]) -> Loaded {
     let mut printed = io::large_buffer();
-    let fresh = Player::fresh(&mut *ram);
-    load(fresh, text, ram, queues, &mut printed)
+    let made = Player::fresh(&mut *ram);
+    let player = made.player;
+    let answer = made.answer;
+    if answer.number() != 0 {
+        return refused(player);
+    }
+    load(player, text, ram, queues, &mut printed)
 }
 
 // The log, then the frames.
 fn play(ram: &mut [u8], queues: &mut [i16], text: &[u8]) {
     let loaded = load_fresh(&mut *ram, &mut *queues, text);
+    if loaded.refused {
+        io::write_all(
+            libc::STDERR_FILENO,
+            b"s3w2-bench: the chip refuses its buffers\n",
+        );
+        return;
+    }
     if loaded.bad != 0 {
         print_bad(loaded.bad);
         return;

@@ -44,6 +44,9 @@ loop-less c = search needs
 loop-again : tie.Need-loop-again Inv-loop μ-loop
 loop-again c = search needs
 
+bad-line-requires : tie.Need-bad-line-requires Inv-loop μ-loop
+bad-line-requires c κs = search needs
+
 same-length-4 : tie.Need-same-length-4 Inv-loop μ-loop
 same-length-4 c = search needs
 
@@ -73,6 +76,7 @@ load-spec =
     sub-turns
     loop-less
     loop-again
+    bad-line-requires
     same-length-4
     same-length-5
     same-length-6

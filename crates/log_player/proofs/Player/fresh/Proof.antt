@@ -1,7 +1,7 @@
 use borrow.Author.Needs.{needs}
 use mathlib.Core.Path.{ap}
-use Rattle.s3w2.specs.declared.Called.{Called}
-use Rattle.log_player.proofs.Applies.{played}
+use Rattle.log_player.specs.Worlds.{madePlayer}
+use Rattle.log_player.proofs.Applies.{made}
 use Rattle.log_player.proofs.Player.fresh.Statement.{statement}
 use Rattle.log_player.proofs.Player.fresh.Tie as tie
 
@@ -12,7 +12,8 @@ same-length : tie.Need-same-length
 same-length c = search needs
 
 returns : tie.Need-returns
-returns c = (ap (λ (k : Called). played k 0 0) (c .before .before .before .with-version .ensures .0), c .before .before .before .with-version .ensures .1)
+unfolding madePlayer
+returns c = (ap made (c .before .before .before .with-version .ensures .0), c .before .before .before .with-version .ensures .1)
 
 pub fresh-spec : {M : Type 1} → statement M
 fresh-spec = tie.close (tie.spec with-version-requires same-length returns)
