@@ -133,3 +133,12 @@ partsNumber (parts.Malformed field) = 16 ∷ field ∷ []
 abbrev pub fieldsNumber : Fields → List ℕ
 fieldsNumber (fields.Count n) = []
 fieldsNumber (fields.Malformed field) = 16 ∷ field ∷ []
+
+-- of what was read
+unfoldable pub takenRefusal : PartsTaken → List ℕ
+takenRefusal (got ns next) = []
+takenRefusal (wrong ns field) = 16 ∷ field ∷ []
+
+unfoldable pub lineRefusal : ReadLine → List ℕ
+lineRefusal (line ns) = []
+lineRefusal (malformed ns field) = 16 ∷ field ∷ []

@@ -38,3 +38,7 @@ putOf out text = cond (leb (length text) (length out)) (sets out 0 text) out
 abbrev pub writtenNumber : Written → List ℕ
 writtenNumber (Length n) = []
 writtenNumber TextBuffer = 15 ∷ []
+
+-- of a text that is to be put into a buffer
+unfoldable pub roomRefusal : List ℕ → List ℕ → List ℕ
+roomRefusal out text = cond (leb (length text) (length out)) [] (15 ∷ [])

@@ -4,6 +4,7 @@ ghost use Prim.Native.Nat.{_≤_, _<_, _-_};
 ghost use lib.Seq.{sets};
 ghost use Rattle.line_fields.specs.Reading.{naturalOf, sampleOf16, fieldAt, endsAt, partAt, partsAt, closedAt, queuePartAt};
 ghost use Rattle.line_fields.specs.Reading.{readLine, numbersIn, partsOf, closeOf, queueFields, fieldsOf, lineNumbers};
+ghost use Rattle.line_fields.specs.Reading.{partNumber, partsNumber, fieldsNumber, takenRefusal, lineRefusal};
 use crate::Fields;
 use crate::Part;
 use crate::Parts;
@@ -74,7 +75,8 @@ pub fn ends_at(text: &[u8], at: usize) -> bool
 // Field k with the comma before it.
 fn part_at(fifo: bool, k: usize, text: &[u8], at: usize) -> Part
     requires { ⌜ k < 2330 ⌝ }
-    ensures { λ r. ⌜ r ≡ partAt fifo k (now (text .entry)) at ⌝ }
+    ensures result { λ r. ⌜ r ≡ partAt fifo k (now (text .entry)) at ⌝ }
+    ensures number { λ r. ⌜ partNumber r ≡ partNumber (partAt fifo k (now (text .entry)) at) ⌝ }
 {
     if k == 0 {
         return field_at(fifo, k, text, at);
@@ -101,6 +103,7 @@ fn take_parts(
     ensures result { λ r. ⌜ r ≡ partsOf (partsAt fifo (now (text .entry)) (to - from) from at) ⌝ }
     ensures numbers { λ r. ⌜ now (numbers .exit)
         ≡ sets (now (numbers .entry)) from (numbersIn (partsAt fifo (now (text .entry)) (to - from) from at)) ⌝ }
+    ensures number { λ r. ⌜ partsNumber r ≡ takenRefusal (partsAt fifo (now (text .entry)) (to - from) from at) ⌝ }
 {
     let mut end = at;
     let mut k = from;
@@ -167,6 +170,7 @@ fn read_queue(fifo: bool, text: &[u8], at: usize, numbers: &mut [u64]) -> Fields
 pub fn read_line(fifo: bool, text: &[u8], numbers: &mut [u64]) -> Fields
     ensures result { λ r. ⌜ r ≡ fieldsOf (readLine fifo (now (text .entry))) ⌝ }
     ensures numbers { λ r. ⌜ now (numbers .exit) ≡ sets (now (numbers .entry)) 0 (lineNumbers (readLine fifo (now (text .entry)))) ⌝ }
+    ensures number { λ r. ⌜ fieldsNumber r ≡ lineRefusal (readLine fifo (now (text .entry))) ⌝ }
 {
     let first = take_parts(fifo, text, 0, 0, 281, numbers);
     match first {

@@ -3,7 +3,7 @@ ghost use mathlib.Core.Path.{_≡_};
 ghost use lib.Dec.{leb};
 ghost use lib.ListN.{length};
 ghost use Rattle.decimal.specs.Written.{Put};
-ghost use Rattle.line_fields.specs.Text.{fieldText, partText, lineText, writtenOf, putOf};
+ghost use Rattle.line_fields.specs.Text.{fieldText, partText, lineText, writtenOf, putOf, writtenNumber, roomRefusal};
 use crate::Written;
 use crate::table::is_sample;
 use crate::table::sample;
@@ -81,6 +81,7 @@ pub fn put_line(numbers: &[u64], out: &mut [u8]) -> usize
 pub fn write_line(numbers: &[u64], out: &mut [u8]) -> Written
     ensures result { λ r. ⌜ r ≡ writtenOf (now (out .entry)) (lineText (now (numbers .entry))) ⌝ }
     ensures out { λ r. ⌜ now (out .exit) ≡ putOf (now (out .entry)) (lineText (now (numbers .entry))) ⌝ }
+    ensures number { λ r. ⌜ writtenNumber r ≡ roomRefusal (now (out .entry)) (lineText (now (numbers .entry))) ⌝ }
 {
     if fits(numbers, out.len()) {
         return Written::Length(put_line(numbers, out));

@@ -7,3 +7,4 @@ pub mod Session
 pub mod Size
 pub mod Taken
 mod Examples
+pub mod Told

@@ -46,3 +46,7 @@ abbrev pub headLineNumber : HeadLine → List ℕ
 headLineNumber (Version version) = []
 headLineNumber (Sized version size) = []
 headLineNumber (Malformed field) = 16 ∷ field ∷ []
+
+-- of a text that is read as one
+unfoldable pub headRefusal : List ℕ → List ℕ
+headRefusal text = headLineNumber (readHead text)

@@ -99,3 +99,9 @@ abbrev pub voiceLineNumber : VoiceLine → List ℕ
 voiceLineNumber (told.Voice ch) = []
 voiceLineNumber (told.Malformed field) = 16 ∷ field ∷ []
 voiceLineNumber told.Queued = 23 ∷ []
+
+-- of a line that was read
+unfoldable pub voiceRefusal : ReadVoice → List ℕ
+voiceRefusal (voice v) = []
+voiceRefusal (malformed field) = 16 ∷ field ∷ []
+voiceRefusal queued = 23 ∷ []

@@ -1,9 +1,9 @@
 // The head of a session text: `S3W2`, the version's number and the RAM's length, parted by commas, and byte 10. Heads without
 // the length are read too.
 ghost use mathlib.Core.Path.{_≡_};
-ghost use Rattle.line_fields.specs.Text.{writtenOf, putOf};
+ghost use Rattle.line_fields.specs.Text.{writtenOf, putOf, writtenNumber, roomRefusal};
 ghost use Rattle.decimal.specs.Read.{naturalAt};
-ghost use Rattle.session_lines.specs.Head.{headText, hasMagic as isNamed, sizedHead, behindVersion, readHead};
+ghost use Rattle.session_lines.specs.Head.{headText, hasMagic as isNamed, sizedHead, behindVersion, readHead, headLineNumber, headRefusal};
 use crate::HeadLine;
 use decimal::TakenNatural;
 use line_fields::Written;
@@ -13,6 +13,7 @@ use version::SguVersion;
 pub fn write_head(version: SguVersion, size: usize, out: &mut [u8]) -> Written
     ensures result { λ r. ⌜ r ≡ writtenOf (now (out .entry)) (headText version size) ⌝ }
     ensures out { λ r. ⌜ now (out .exit) ≡ putOf (now (out .entry)) (headText version size) ⌝ }
+    ensures number { λ r. ⌜ writtenNumber r ≡ roomRefusal (now (out .entry)) (headText version size) ⌝ }
 {
     let width = decimal::natural_width(size as u64);
     if out.len() < 8 + width {
@@ -74,7 +75,8 @@ fn versioned(text: &[u8], version: SguVersion, next: usize) -> HeadLine
 
 // What a head is: its version, the RAM's length too if it has three fields, or the first field at fault.
 pub fn read_head(text: &[u8]) -> HeadLine
-    ensures { λ r. ⌜ r ≡ readHead (now (text .entry)) ⌝ }
+    ensures result { λ r. ⌜ r ≡ readHead (now (text .entry)) ⌝ }
+    ensures number { λ r. ⌜ headLineNumber r ≡ headRefusal (now (text .entry)) ⌝ }
 {
     if !named(text) {
         return HeadLine::Malformed(1);

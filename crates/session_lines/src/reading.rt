@@ -3,6 +3,7 @@ ghost use mathlib.Core.Path.{_≡_};
 ghost use lib.Seq.{sets};
 ghost use Rattle.session_lines.specs.Numbers.{at, tableOf, queuedSamples};
 ghost use Rattle.session_lines.specs.Lines.{queueTold, voiceTaken, readAs, toldOf, channelAfter, tableAfter, queueAfter};
+ghost use Rattle.session_lines.specs.Lines.{voiceLineNumber, voiceRefusal};
 use crate::VoiceLine;
 use crate::states::byte;
 use crate::states::channel_of;
@@ -35,7 +36,8 @@ fn told(stored: bool, version: SguVersion, numbers: &[u64]) -> VoiceLine
 
 // What a line of a session text is: that of a voice, or the first field at fault, or a queue that the version does not have.
 pub fn check_voice(stored: bool, version: SguVersion, text: &[u8]) -> VoiceLine
-    ensures { λ r. ⌜ r ≡ toldOf (readAs stored version (now (text .entry))) ⌝ }
+    ensures result { λ r. ⌜ r ≡ toldOf (readAs stored version (now (text .entry))) ⌝ }
+    ensures number { λ r. ⌜ voiceLineNumber r ≡ voiceRefusal (readAs stored version (now (text .entry))) ⌝ }
 {
     let mut numbers = [0u64; 2330];
     let fields = line_fields::read_line(version.has_3ws8pna(), text, &mut numbers);

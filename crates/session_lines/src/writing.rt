@@ -5,7 +5,7 @@ ghost use lib.IntN.{pos};
 ghost use lib.ListN.{getD};
 ghost use lib.Seq.{sets};
 ghost use Rattle.sizes.specs.Sizes.{fifoCapacity};
-ghost use Rattle.line_fields.specs.Text.{writtenOf, putOf};
+ghost use Rattle.line_fields.specs.Text.{writtenOf, putOf, writtenNumber, roomRefusal};
 ghost use Rattle.session_lines.specs.Numbers.{tableNumbers, queueNumbers};
 ghost use Rattle.session_lines.specs.Lines.{voiceText};
 use crate::states::state_numbers;
@@ -72,6 +72,7 @@ pub fn write_voice(
 ) -> Written
     ensures result { λ r. ⌜ r ≡ writtenOf (now (out .entry)) (voiceText ch c (now (wavetable .entry)) (now (queue .entry))) ⌝ }
     ensures out { λ r. ⌜ now (out .exit) ≡ putOf (now (out .entry)) (voiceText ch c (now (wavetable .entry)) (now (queue .entry))) ⌝ }
+    ensures number { λ r. ⌜ writtenNumber r ≡ roomRefusal (now (out .entry)) (voiceText ch c (now (wavetable .entry)) (now (queue .entry))) ⌝ }
 {
     if LAST_CHANNEL < ch {
         return Written::Length(0);

@@ -1,3 +1,4 @@
+use Rattle.line_fields.proofs.Numbers.{told-part}
 use borrow.Author.Needs.{needs}
 use mathlib.Core.Path.{sym, _∙_}
 use native.Mathlib.Omega.{arith}
@@ -9,7 +10,9 @@ field-at-requires : tie.Need-field-at-requires
 field-at-requires c κs = search needs
 
 returns : tie.Need-returns
-returns c = c .field-at .ensures ∙ sym (part-first _ _ _ _ (c .before .if1 .taken))
+returns c =
+    told-part _ _
+    (c .field-at .ensures ∙ sym (part-first _ _ _ _ (c .before .if1 .taken)))
 
 byte-at-requires : tie.Need-byte-at-requires
 byte-at-requires c κs = search needs
@@ -21,7 +24,9 @@ field-at-requires-2 : tie.Need-field-at-requires-2
 field-at-requires-2 c κs = search needs
 
 returns-2 : tie.Need-returns-2
-returns-2 c = c .field-at2 .ensures ∙ sym (part-next _ _ _ _ (c .before .before .before .if1 .left) (sym (c .before .before .byte-at .ensures) ∙ c .before .if2 .taken))
+returns-2 c =
+    told-part _ _
+    (c .field-at2 .ensures ∙ sym (part-next _ _ _ _ (c .before .before .before .if1 .left) (sym (c .before .before .byte-at .ensures) ∙ c .before .if2 .taken)))
 
 ends-at-requires : tie.Need-ends-at-requires
 ends-at-requires c κs = search needs
@@ -30,10 +35,14 @@ add-t9 : tie.Need-add-t9
 add-t9 c = search needs
 
 returns-3 : tie.Need-returns-3
-returns-3 c = sym (part-missing _ _ _ _ (c .before .before .before .before .if1 .left) (λ e. c .before .before .if2 .left (c .before .before .before .byte-at .ensures ∙ e)) (sym (c .before .ends-at .ensures) ∙ c .if3 .taken))
+returns-3 c =
+    told-part _ _
+    (sym (part-missing _ _ _ _ (c .before .before .before .before .if1 .left) (λ e. c .before .before .if2 .left (c .before .before .before .byte-at .ensures ∙ e)) (sym (c .before .ends-at .ensures) ∙ c .if3 .taken)))
 
 returns-4 : tie.Need-returns-4
-returns-4 c = sym (part-before _ _ _ _ (c .before .before .before .before .if1 .left) (λ e. c .before .before .if2 .left (c .before .before .before .byte-at .ensures ∙ e)) (sym (c .before .ends-at .ensures) ∙ c .if3 .left))
+returns-4 c =
+    told-part _ _
+    (sym (part-before _ _ _ _ (c .before .before .before .before .if1 .left) (λ e. c .before .before .if2 .left (c .before .before .before .byte-at .ensures ∙ e)) (sym (c .before .ends-at .ensures) ∙ c .if3 .left)))
 
 pub part-at-spec : {M : Type 1} → statement M
 part-at-spec =

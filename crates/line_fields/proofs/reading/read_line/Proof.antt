@@ -1,3 +1,4 @@
+use Rattle.line_fields.proofs.Numbers.{told-line}
 use mathlib.Core.Path.{sym, _∙_}
 use Rattle.line_fields.proofs.Taking.{line-taken, line-refused}
 use borrow.Author.Needs.{needs}
@@ -21,16 +22,18 @@ same-length c = search needs
 
 returns : tie.Need-returns
 returns c =
-    let t = c .before .before .before .before .before .before .before .before .before .take-parts .ensures in
-    line-taken _ _ _ _ _ _ _ (sym (c .before .before .before .before .before .first .given .1) ∙ t .0) (t .1) (c .before .before .read-queue .ensures .0) (c .before .before .read-queue .ensures .1)
+    told-line _ _
+    (let t = c .before .before .before .before .before .before .before .before .before .take-parts .ensures in
+    line-taken _ _ _ _ _ _ _ (sym (c .before .before .before .before .before .first .given .1) ∙ t .0) (t .1 .0) (c .before .before .read-queue .ensures .0) (c .before .before .read-queue .ensures .1))
 
 same-length-2 : tie.Need-same-length-2
 same-length-2 c = search needs
 
 returns-2 : tie.Need-returns-2
 returns-2 c =
-    let t = c .before .before .before .before .before .take-parts .ensures in
-    line-refused _ _ _ _ _ (sym (c .before .first2 .given .1) ∙ t .0) (t .1)
+    told-line _ _
+    (let t = c .before .before .before .before .before .take-parts .ensures in
+    line-refused _ _ _ _ _ (sym (c .before .first2 .given .1) ∙ t .0) (t .1 .0))
 
 pub read-line-spec : {M : Type 1} → statement M
 read-line-spec =

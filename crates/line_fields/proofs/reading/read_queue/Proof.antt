@@ -12,7 +12,7 @@ use Rattle.line_fields.proofs.reading.read_queue.Tie as tie
 
 -- the count that was read
 count : (c : tie.After-part) → partAt (c .before .before .before .before .before .args .fifo) 281 (c .before .before .before .before .before .args .text .now) (c .before .before .before .before .before .args .at) ≡ At (c .part .given .0 .0) (c .part .given .0 .1 .0)
-count c = sym (c .before .before .part-at .ensures) ∙ c .part .given .1
+count c = sym (c .before .before .part-at .ensures .0) ∙ c .part .given .1
 
 few : (c : tie.After-part) → c .part .given .0 .0 ≤ fifoCapacity
 few c = count-range _ _ _ _ _ (count c)
@@ -45,11 +45,11 @@ returns : tie.Need-returns
 returns c =
     let p = c .before .before .before .before .before .before .before .before .before .before in (
       c .close .ensures ∙ queue-taken _ _ _ _ _ _ (count p) (c .before .before .before .take-parts .ensures .0),
-      queue-stored _ _ _ _ _ _ _ _ (count p) (c .before .before .before .before .before .before .before .put-number .ensures) (c .before .before .before .take-parts .ensures .1),
+      queue-stored _ _ _ _ _ _ _ _ (count p) (c .before .before .before .before .before .before .before .put-number .ensures) (c .before .before .before .take-parts .ensures .1 .0),
     )
 
 returns-2 : tie.Need-returns-2
-returns-2 c = queue-refused _ _ _ _ _ (sym (c .before .before .before .part-at .ensures) ∙ c .before .part2 .given .1)
+returns-2 c = queue-refused _ _ _ _ _ (sym (c .before .before .before .part-at .ensures .0) ∙ c .before .part2 .given .1)
 
 pub read-queue-spec : {M : Type 1} → statement M
 read-queue-spec =

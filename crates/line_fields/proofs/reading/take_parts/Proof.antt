@@ -1,3 +1,4 @@
+use Rattle.line_fields.proofs.Numbers.{told-parts}
 use borrow.Author.Needs.{needs}
 use mathlib.Core.Path.{refl, sym, ap, _∙_}
 use Prim.Native.Nat.{_-_}
@@ -33,12 +34,13 @@ enum-known-part-2 c = search needs
 same-length : tie.Need-same-length Inv-loop μ-loop
 same-length c =
     let a = c .before .before .before .before .before .before .before .before .args in
-    ap length (wrong-field _ _ (c .before .before .before .before .before .loop .inv) _ (c .before .before .before .before .loop-test .taken) (sym (c .before .before .before .part-at .ensures) ∙ c .before .part2 .given .1) .1)
+    ap length (wrong-field _ _ (c .before .before .before .before .before .loop .inv) _ (c .before .before .before .before .loop-test .taken) (sym (c .before .before .before .part-at .ensures .0) ∙ c .before .part2 .given .1) .1)
     ∙ length-sets (a .numbers .now) (a .from) (numbersIn (partsAt (a .fifo) (a .text .now) (a .to - a .from) (a .from) (a .at)))
 
 returns : tie.Need-returns Inv-loop μ-loop
 returns c =
-    wrong-field _ _ (c .before .before .before .before .before .loop .inv) _ (c .before .before .before .before .loop-test .taken) (sym (c .before .before .before .part-at .ensures) ∙ c .before .part2 .given .1)
+    told-parts _ _
+    (wrong-field _ _ (c .before .before .before .before .before .loop .inv) _ (c .before .before .before .before .loop-test .taken) (sym (c .before .before .before .part-at .ensures .0) ∙ c .before .part2 .given .1))
 
 add-k : tie.Need-add-k Inv-loop μ-loop
 add-k c = search needs
@@ -49,7 +51,7 @@ loop-less c = search needs
 loop-again : tie.Need-loop-again Inv-loop μ-loop
 loop-again c =
     let p = c .before .before .before .before .before .before .before in
-    next-field _ _ (p .before .before .loop .inv) _ _ (p .before .loop-test .taken) (sym (p .part-at .ensures) ∙ c .before .before .before .before .before .part .given .1) (c .before .before .put-number .ensures)
+    next-field _ _ (p .before .before .loop .inv) _ _ (p .before .loop-test .taken) (sym (p .part-at .ensures .0) ∙ c .before .before .before .before .before .part .given .1) (c .before .before .put-number .ensures)
 
 same-length-2 : tie.Need-same-length-2 Inv-loop μ-loop
 same-length-2 c =
@@ -58,7 +60,9 @@ same-length-2 c =
     ∙ length-sets (a .numbers .now) (a .from) (numbersIn (partsAt (a .fifo) (a .text .now) (a .to - a .from) (a .from) (a .at)))
 
 returns-2 : tie.Need-returns-2 Inv-loop μ-loop
-returns-2 c = last-field _ _ (c .before .loop .inv) (c .loop-test .left)
+returns-2 c =
+    told-parts _ _
+    (last-field _ _ (c .before .loop .inv) (c .loop-test .left))
 
 pub take-parts-spec : {M : Type 1} → statement M
 take-parts-spec =

@@ -1,3 +1,4 @@
+use Rattle.line_fields.proofs.Numbers.{told-room}
 use mathlib.Core.Path.{sym, _∙_}
 use Rattle.line_fields.proofs.Putting.{write-yes, write-no}
 use borrow.Author.Needs.{needs}
@@ -14,10 +15,14 @@ same-length : tie.Need-same-length
 same-length c = search needs
 
 returns : tie.Need-returns
-returns c = write-yes _ _ _ _ (sym (c .before .before .before .before .before .fits2 .ensures) ∙ c .before .before .before .before .if1 .taken) (c .before .before .put-line .ensures)
+returns c =
+    told-room _ _ _
+    (write-yes _ _ _ _ (sym (c .before .before .before .before .before .fits2 .ensures) ∙ c .before .before .before .before .if1 .taken) (c .before .before .put-line .ensures))
 
 returns-2 : tie.Need-returns-2
-returns-2 c = write-no _ _ (sym (c .before .fits2 .ensures) ∙ c .if1 .left)
+returns-2 c =
+    told-room _ _ _
+    (write-no _ _ (sym (c .before .fits2 .ensures) ∙ c .if1 .left))
 
 pub write-line-spec : {M : Type 1} → statement M
 write-line-spec =

@@ -43,7 +43,7 @@ answers-requires-3 c κs = search needs
 
 returns-3 : tie.Need-returns-3
 unfolding readHeadCalled
-returns-3 c = c .answers3 .ensures ∙ head-other (c .before .before .before .before .before .before .before .before .before .before .before .before .args .chip) _ (c .before .before .before .before .before .before .before .before .before .before .before .before .args .text .now) _ _ (sym (c .before .before .before .before .before .read-head .ensures) ∙ c .before .before .before .head2 .given .1) (c .before .if3 .taken)
+returns-3 c = c .answers3 .ensures ∙ head-other (c .before .before .before .before .before .before .before .before .before .before .before .before .args .chip) _ (c .before .before .before .before .before .before .before .before .before .before .before .before .args .text .now) _ _ (sym (c .before .before .before .before .before .read-head .ensures .0) ∙ c .before .before .before .head2 .given .1) (c .before .if3 .taken)
     ∙ goes-over (c .before .before .before .before .before .before .before .before .before .before .before .before .args .chip) _ _ _ _ (sym (c .before .before .before .before .before .before .before .before .before .is-ram-length .ensures) ∙ not-false _ (c .before .before .before .before .before .before .before .before .if1 .left)) (sym (c .before .before .before .before .before .before .before .accepts .ensures) ∙ not-false _ (c .before .before .before .before .before .before .if2 .left))
 
 set-version-requires-2 : tie.Need-set-version-requires-2
@@ -57,17 +57,17 @@ answers-requires-4 c κs = search needs
 
 returns-4 : tie.Need-returns-4
 unfolding readHeadCalled
-returns-4 c = c .set-version .ensures ∙ head-set (c .before .before .before .before .before .before .before .before .before .before .before .args .chip) _ (c .before .before .before .before .before .before .before .before .before .before .before .args .text .now) _ (sym (c .before .before .before .before .read-head .ensures) ∙ c .before .before .head .given .1)
+returns-4 c = c .set-version .ensures ∙ head-set (c .before .before .before .before .before .before .before .before .before .before .before .args .chip) _ (c .before .before .before .before .before .before .before .before .before .before .before .args .text .now) _ (sym (c .before .before .before .before .read-head .ensures .0) ∙ c .before .before .head .given .1)
     ∙ goes-over (c .before .before .before .before .before .before .before .before .before .before .before .args .chip) _ _ _ _ (sym (c .before .before .before .before .before .before .before .before .is-ram-length .ensures) ∙ not-false _ (c .before .before .before .before .before .before .before .if1 .left)) (sym (c .before .before .before .before .before .before .accepts .ensures) ∙ not-false _ (c .before .before .before .before .before .if2 .left))
 
 returns-5 : tie.Need-returns-5
 unfolding readHeadCalled
-returns-5 c = c .set-version2 .ensures ∙ head-sized (c .before .before .before .before .before .before .before .before .before .before .before .before .args .chip) _ (c .before .before .before .before .before .before .before .before .before .before .before .before .args .text .now) _ _ (sym (c .before .before .before .before .before .read-head .ensures) ∙ c .before .before .before .head2 .given .1) (c .before .if3 .left)
+returns-5 c = c .set-version2 .ensures ∙ head-sized (c .before .before .before .before .before .before .before .before .before .before .before .before .args .chip) _ (c .before .before .before .before .before .before .before .before .before .before .before .before .args .text .now) _ _ (sym (c .before .before .before .before .before .read-head .ensures .0) ∙ c .before .before .before .head2 .given .1) (c .before .if3 .left)
     ∙ goes-over (c .before .before .before .before .before .before .before .before .before .before .before .before .args .chip) _ _ _ _ (sym (c .before .before .before .before .before .before .before .before .before .is-ram-length .ensures) ∙ not-false _ (c .before .before .before .before .before .before .before .before .if1 .left)) (sym (c .before .before .before .before .before .before .before .accepts .ensures) ∙ not-false _ (c .before .before .before .before .before .before .if2 .left))
 
 returns-6 : tie.Need-returns-6
 unfolding readHeadCalled
-returns-6 c = c .answers4 .ensures ∙ head-fault (c .before .before .before .before .before .before .before .before .before .before .before .args .chip) _ (c .before .before .before .before .before .before .before .before .before .before .before .args .text .now) _ (sym (c .before .before .before .before .read-head .ensures) ∙ c .before .before .head3 .given .1)
+returns-6 c = c .answers4 .ensures ∙ head-fault (c .before .before .before .before .before .before .before .before .before .before .before .args .chip) _ (c .before .before .before .before .before .before .before .before .before .before .before .args .text .now) _ (sym (c .before .before .before .before .read-head .ensures .0) ∙ c .before .before .head3 .given .1)
     ∙ goes-over (c .before .before .before .before .before .before .before .before .before .before .before .args .chip) _ _ _ _ (sym (c .before .before .before .before .before .before .before .before .is-ram-length .ensures) ∙ not-false _ (c .before .before .before .before .before .before .before .if1 .left)) (sym (c .before .before .before .before .before .before .accepts .ensures) ∙ not-false _ (c .before .before .before .before .before .if2 .left))
 
 pub read-head-spec : {M : Type 1} → statement M

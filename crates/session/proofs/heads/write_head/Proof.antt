@@ -41,7 +41,7 @@ returns-3 c =
     let h = sym (c .before .before .before .before .before .before .before .before .is-ram-length .ensures) ∙ not-false _ (c .before .before .before .before .before .before .before .if1 .left) in
     let e = sym (c .before .before .before .before .before .before .accepts .ensures) ∙ not-false _ (c .before .before .before .before .before .if2 .left) in
     let w = c .before .before .before .write-head in
-    (c .told .ensures ∙ ap wrote (w .ensures .0) ∙ goes-over (c .before .before .before .before .before .before .before .before .before .before .before .args .chip) _ _ _ _ h e, w .ensures .1 ∙ goes-over (c .before .before .before .before .before .before .before .before .before .before .before .args .chip) _ _ _ _ h e)
+    (c .told .ensures ∙ ap wrote (w .ensures .0) ∙ goes-over (c .before .before .before .before .before .before .before .before .before .before .before .args .chip) _ _ _ _ h e, w .ensures .1 .0 ∙ goes-over (c .before .before .before .before .before .before .before .before .before .before .before .args .chip) _ _ _ _ h e)
 
 pub write-head-spec : {M : Type 1} → statement M
 write-head-spec =

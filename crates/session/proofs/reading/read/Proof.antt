@@ -47,7 +47,7 @@ load-requires c κs =
     let k = l .before .before in
     let s = k .before .before in
     let a = s .before .before .before .args in
-    (read-named (a .stored) (a .chip .version) (a .text .now) _ (sym (k .check-voice .ensures) ∙ l .line .given .1), s .before .if1 .left)
+    (read-named (a .stored) (a .chip .version) (a .text .now) _ (sym (k .check-voice .ensures .0) ∙ l .line .given .1), s .before .if1 .left)
 
 answers-requires-3 : tie.Need-answers-requires-3
 answers-requires-3 c κs = search needs
@@ -77,7 +77,7 @@ returns-3 c =
     let e = sym (s .accepted .ensures) ∙ not-false _ (k .before .if2 .left) in
     let n = s .before .if1 .left in
     let r = readAs (a .stored) (a .chip .version) (a .text .now) in
-    let v = sym (k .check-voice .ensures) ∙ l .line .given .1 in
+    let v = sym (k .check-voice .ensures .0) ∙ l .line .given .1 in
     let d = c .before .before .load in (
       c .answers3 .ensures ∙ ap (λ (x : Chip). lineAnswered x Done) (d .ensures .0) ∙ voice-called r _ v (a .chip) ∙ goes-on (a .chip) (a .queues .now) _ _ _ n e,
       d .ensures .1 ∙ voice-queues r _ v (a .queues .now) ∙ goes-on (a .chip) (a .queues .now) _ _ _ n e,
@@ -93,7 +93,7 @@ returns-4 c =
     let e = sym (s .accepted .ensures) ∙ not-false _ (k .before .if2 .left) in
     let n = s .before .if1 .left in
     let r = readAs (a .stored) (a .chip .version) (a .text .now) in
-    let v = sym (k .check-voice .ensures) ∙ l .line2 .given .1 in
+    let v = sym (k .check-voice .ensures .0) ∙ l .line2 .given .1 in
     (c .answers4 .ensures ∙ fault-called r _ v (a .chip) ∙ goes-on (a .chip) (a .queues .now) _ _ _ n e, fault-queues r _ v (a .queues .now) ∙ goes-on (a .chip) (a .queues .now) _ _ _ n e)
 
 returns-5 : tie.Need-returns-5
@@ -106,7 +106,7 @@ returns-5 c =
     let e = sym (s .accepted .ensures) ∙ not-false _ (k .before .if2 .left) in
     let n = s .before .if1 .left in
     let r = readAs (a .stored) (a .chip .version) (a .text .now) in
-    let v = sym (k .check-voice .ensures) ∙ l .enum-told .given .1 in
+    let v = sym (k .check-voice .ensures .0) ∙ l .enum-told .given .1 in
     (c .answers5 .ensures ∙ queue-called r v (a .chip) ∙ goes-on (a .chip) (a .queues .now) _ _ _ n e, queue-queues r v (a .queues .now) ∙ goes-on (a .chip) (a .queues .now) _ _ _ n e)
 
 pub read-spec : {M : Type 1} → statement M

@@ -89,7 +89,7 @@ returns-4 c =
     let e = sym (s .accepted .ensures) ∙ not-false _ (b .before .if2 .left) in
     let n = s .before .if1 .left in
     let t = own-line (a .chip) (a .queues .now) (a .ch) _ (p .ensures) in
-    (c .told .ensures ∙ line-answer (a .chip) (a .queues .now) (a .ch) (a .out .now) _ t n e _ (w .ensures .0), line-text (a .chip) (a .queues .now) (a .ch) (a .out .now) _ t n e _ (w .ensures .1))
+    (c .told .ensures ∙ line-answer (a .chip) (a .queues .now) (a .ch) (a .out .now) _ t n e _ (w .ensures .0), line-text (a .chip) (a .queues .now) (a .ch) (a .out .now) _ t n e _ (w .ensures .1 .0))
 
 pub write-voice-spec : {M : Type 1} → statement M
 write-voice-spec =

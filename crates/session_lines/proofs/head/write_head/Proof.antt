@@ -1,3 +1,4 @@
+use Rattle.line_fields.proofs.Numbers.{told-room}
 use native.Mathlib.Omega.{arith}
 use Rattle.decimal.proofs.Writing.{width-most}
 use Rattle.session_lines.proofs.Heads.{head-put, head-yes, head-no, version-most}
@@ -12,7 +13,9 @@ add-if1 : tie.Need-add-if1
 add-if1 c = let w = c .natural-width .ensures in omega (arith, w, width-most (c .before .before .args .size) (c .before .before .fits .size .fits))
 
 returns : tie.Need-returns
-returns c = head-no (c .before .before .before .args .out .now) _ _ _ (c .before .natural-width .ensures) (c .if1 .taken)
+returns c =
+    told-room _ _ _
+    (head-no (c .before .before .before .args .out .now) _ _ _ (c .before .natural-width .ensures) (c .if1 .taken))
 
 number-requires : tie.Need-number-requires
 number-requires c κs = search needs
@@ -43,10 +46,11 @@ same-length c = search needs
 
 returns-2 : tie.Need-returns-2
 returns-2 c =
-    let e = c .before .before .before .before .before .before .before .before .before .before .before .before .before .before .before .before .before .before .before .before .before .before .before in
+    told-room _ _ _
+    (let e = c .before .before .before .before .before .before .before .before .before .before .before .before .before .before .before .before .before .before .before .before .before .before .before in
     let a = e .before .before .args in
     head-yes (a .out .now) (a .version) (a .size) _ (e .natural-width .ensures) _ _ (c .before .before .before .before .before .before .before .before .before .before .before .before .before .before .before .before .before .before .before .before .before .before .if1 .left)
-    (head-put (a .out .now) _ _ _ _ _ _ _ _ _ _ _ (a .version) (a .size) (c .before .before .before .before .before .before .before .before .before .before .before .before .before .before .before .before .before .before .before .before .before .number .ensures) (c .before .before .before .before .before .before .before .before .before .before .before .before .before .before .before .before .before .before .put-text .ensures) (c .before .before .before .before .before .before .before .before .before .before .before .before .before .before .put-byte .ensures) (c .before .before .before .before .before .before .before .before .before .before .put-byte2 .ensures) (c .before .before .before .before .before .before .put-natural .ensures) (c .before .before .put-byte3 .ensures))
+    (head-put (a .out .now) _ _ _ _ _ _ _ _ _ _ _ (a .version) (a .size) (c .before .before .before .before .before .before .before .before .before .before .before .before .before .before .before .before .before .before .before .before .before .number .ensures) (c .before .before .before .before .before .before .before .before .before .before .before .before .before .before .before .before .before .before .put-text .ensures) (c .before .before .before .before .before .before .before .before .before .before .before .before .before .before .put-byte .ensures) (c .before .before .before .before .before .before .before .before .before .before .put-byte2 .ensures) (c .before .before .before .before .before .before .put-natural .ensures) (c .before .before .put-byte3 .ensures)))
 
 pub write-head-spec : {M : Type 1} → statement M
 write-head-spec =

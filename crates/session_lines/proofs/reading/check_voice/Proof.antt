@@ -1,3 +1,4 @@
+use Rattle.session_lines.proofs.Told.{told-voice}
 use mathlib.Core.Path.{sym, ap, _∙_}
 use Rattle.session_lines.specs.Lines.{toldOf}
 use Rattle.session_lines.proofs.Whole.{read-yes, read-no}
@@ -27,10 +28,14 @@ enum-known-fields : tie.Need-enum-known-fields
 enum-known-fields c = search needs
 
 returns : tie.Need-returns
-returns c = c .told .ensures ∙ sym (ap toldOf (read-yes _ _ _ _ _ _ (c .before .before .before .before .before .before .before .has-3ws8pna .ensures) (sym (c .before .before .enum-told .given .1) ∙ c .before .before .before .before .before .read-line .ensures .0) (c .before .before .before .before .before .read-line .ensures .1)))
+returns c =
+    told-voice _ _
+    (c .told .ensures ∙ sym (ap toldOf (read-yes _ _ _ _ _ _ (c .before .before .before .before .before .before .before .has-3ws8pna .ensures) (sym (c .before .before .enum-told .given .1) ∙ c .before .before .before .before .before .read-line .ensures .0) (c .before .before .before .before .before .read-line .ensures .1 .0))))
 
 returns-2 : tie.Need-returns-2
-returns-2 c = sym (ap toldOf (read-no _ _ _ _ _ (c .before .before .before .before .before .before .has-3ws8pna .ensures) (sym (c .before .fields .given .1) ∙ c .before .before .before .before .read-line .ensures .0)))
+returns-2 c =
+    told-voice _ _
+    (sym (ap toldOf (read-no _ _ _ _ _ (c .before .before .before .before .before .before .has-3ws8pna .ensures) (sym (c .before .fields .given .1) ∙ c .before .before .before .before .read-line .ensures .0))))
 
 pub check-voice-spec : {M : Type 1} → statement M
 check-voice-spec =

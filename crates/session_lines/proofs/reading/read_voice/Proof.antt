@@ -34,7 +34,7 @@ same-length-2 c = search needs
 returns : tie.Need-returns
 returns c =
     let n = c .before .before .before .before .before .before .before .before .before in
-    after-same _ _ _ _ _ _ _ _ (read-yes _ _ _ _ _ _ (n .before .before .before .has-3ws8pna .ensures) (sym (c .before .before .before .before .before .before .before .enum-told .given .1) ∙ n .before .read-line .ensures .0) (n .before .read-line .ensures .1)) (c .before .before .before .take-voice .ensures)
+    after-same _ _ _ _ _ _ _ _ (read-yes _ _ _ _ _ _ (n .before .before .before .has-3ws8pna .ensures) (sym (c .before .before .before .before .before .before .before .enum-told .given .1) ∙ n .before .read-line .ensures .0) (n .before .read-line .ensures .1 .0)) (c .before .before .before .take-voice .ensures)
 
 returns-2 : tie.Need-returns-2
 returns-2 c = after-no _ _ _ _ _ (read-no _ _ _ _ _ (c .before .before .before .before .before .has-3ws8pna .ensures) (sym (c .enum-told2 .given .1) ∙ c .before .before .before .read-line .ensures .0))

@@ -1,3 +1,4 @@
+use Rattle.line_fields.proofs.Numbers.{told-room}
 use Rattle.session_lines.specs.Numbers.{tableNumbers, queueNumbers}
 use mathlib.Core.Path.{sym, ap, _∙_}
 use Prim.Native.Nat.{ℕ}
@@ -10,7 +11,9 @@ use Rattle.session_lines.proofs.writing.write_voice.Statement.{statemen
 use Rattle.session_lines.proofs.writing.write_voice.Tie as tie
 
 returns : tie.Need-returns
-returns c = write-none _ _ _ _ _ (c .if1 .taken)
+returns c =
+    told-room _ _ _
+    (write-none _ _ _ _ _ (c .if1 .taken))
 
 state-numbers-requires : tie.Need-state-numbers-requires
 state-numbers-requires c κs = search needs
@@ -55,10 +58,11 @@ same-length c = search needs
 
 returns-2 : tie.Need-returns-2
 returns-2 c =
-    let a = c .before .before .before .before .before .before .before .before .before .before .before .before .before .before .before .before .before .before .before .before .args in
+    told-room _ _ _
+    (let a = c .before .before .before .before .before .before .before .before .before .before .before .before .before .before .before .before .before .before .before .before .args in
     write-yes (a .ch) (a .c) (a .wavetable .now) (a .queue .now) (a .out .now) _ _ _ (c .before .before .before .before .before .before .before .before .before .before .before .before .before .before .before .before .before .if1 .left)
     (packed (a .ch) (a .c) (a .wavetable .now) (a .queue .now) (replicate 2330 0) _ _ _ _ (omega (arith, length-replicate {0} {A = ℕ} 2330 0)) (c .before .before .before .before .before .before .before .before .before .before .before .before .put-first .ensures ∙ ap (sets (replicate 2330 0) 0) (c .before .before .before .before .before .before .before .before .before .before .before .before .before .before .before .state-numbers .ensures)) (c .before .before .before .before .before .before .before .before .before .put-table .ensures) (c .before .before .before .before .before .before .put-queue .ensures .1) (c .before .before .before .before .before .before .put-queue .ensures .0))
-    (c .before .before .write-line .ensures .0) (c .before .before .write-line .ensures .1)
+    (c .before .before .write-line .ensures .0) (c .before .before .write-line .ensures .1 .0))
 
 pub write-voice-spec : {M : Type 1} → statement M
 write-voice-spec =
