@@ -10,3 +10,4 @@ pub mod Plays
 pub mod Bounds
 pub mod Ranges
 pub mod Endings
+pub mod Marked
