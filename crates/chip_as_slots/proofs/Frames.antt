@@ -16,7 +16,7 @@ use Rattle.voices.specs.Accepted.{SizedCore}
 use Rattle.voices.specs.declared.Core.{Core}
 use Rattle.frames.specs.Ticking.{Voiced, voiced, voiceTick, voiceTicks}
 use Rattle.frames.specs.Turning as turning
-use Rattle.frames.specs.Values.{tickValue, tickValues, turnedValues, framesValues}
+use Rattle.frame_reports.specs.Values.{tickValue, tickValues, turnedValues, framesValues}
 use Rattle.frames.proofs.Parts.{part-back}
 use Rattle.plain_chip.specs.Lists.{Every}
 use Rattle.slots.specs.Slots.{Slot, emptySlot}

@@ -35,9 +35,9 @@ use Rattle.voices.specs.Core.{noChannel, channelAt}
 use Rattle.voices.specs.Accepted.{SizedCore}
 use Rattle.voices.specs.declared.Core.{Core}
 use Rattle.frames.specs.Ticking.{Voiced, voiced, modulator, streamFrom, ticksAs, voiceTick}
-use Rattle.frames.specs.Values.{valueAs, tickValue}
+use Rattle.frame_reports.specs.Values.{valueAs, tickValue}
 use Rattle.frames.proofs.Parts.{part-back}
-use Rattle.frames.proofs.Heard.{stream-here}
+use Rattle.frame_reports.proofs.Heard.{stream-here}
 use Rattle.slots.specs.Slots.{Slot, emptySlot}
 use Rattle.slots.specs.Models.{slots}
 use Rattle.plain_chip.specs.Ticks.{VoiceTick}

@@ -17,9 +17,9 @@ use Rattle.voices.specs.Accepted.{SizedCore}
 use Rattle.voices.specs.Core.{channelAt}
 use Rattle.voices.specs.declared.Core.{Core}
 use Rattle.frames.specs.Turning as turning
-use Rattle.frames.specs.Ending.{turnedOff}
-use Rattle.frames.proofs.Endings.{ended-active}
-use Rattle.frames.specs.Values.{turnedValues, framesValues, frameValues}
+use Rattle.frame_reports.specs.Ending.{turnedOff}
+use Rattle.frame_reports.proofs.Endings.{ended-active}
+use Rattle.frame_reports.specs.Values.{turnedValues, framesValues, frameValues}
 use Rattle.s3w2.specs.declared.Chip.{Chip}
 use Rattle.s3w2.specs.declared.Called.{Called}
 use Rattle.s3w2.specs.declared.Answer.{Answer}

@@ -9,7 +9,7 @@ use lib.ListN.{length}
 use Rattle.sizes.specs.Sizes.{numChannels}
 use Rattle.version.specs.declared.SguVersion.{SguVersion}
 use Rattle.sides.specs.Sides.{saturating}
-use Rattle.frames.specs.Values.{turnedValues, frameValues, framesValues}
+use Rattle.frame_reports.specs.Values.{turnedValues, frameValues, framesValues}
 use Rattle.s3w2.specs.declared.Chip.{Chip}
 use Rattle.s3w2.specs.Answers.{unless}
 use Rattle.s3w2.specs.Refusals.{soundRefusal, clockRefusal}

@@ -19,9 +19,9 @@ use Rattle.voice.specs.declared.Kind.{Kind}
 use Rattle.voice.specs.declared.Kind.the-variants as kinds
 use Rattle.voices.specs.Core.{noChannel, channelAt}
 use Rattle.voices.specs.declared.Core.{Core}
 use Rattle.frames.specs.Ticking.{Voiced, voiced, ticksAs, voiceTick, voiceTicks}
 use Rattle.frames.specs.Turning.{turned, frame, frames}
-use Rattle.frames.specs.Ending.{turnedOff, tickEnds, ticksEnd, frameEnds, framesEnd, framesEnded}
+use Rattle.frame_reports.specs.Ending.{turnedOff, tickEnds, ticksEnd, frameEnds, framesEnd, framesEnded}
 
 module _ (version : SguVersion) (ram : List ℕ) (queues : List ℤ) where
   -- ---- one tick

@@ -37,8 +37,8 @@ use Rattle.voice.specs.declared.Kind.the-variants as kinds
 use Rattle.voices.specs.Core.{channelAt}
 use Rattle.voices.specs.Accepted.{SizedCore}
 use Rattle.voices.specs.declared.Core.{Core}
 use Rattle.frames.specs.Ticking.{voiced, target, modulator, streamFrom, ticksAs, voiceTick}
-use Rattle.frames.specs.Values.{heardAs, valueAs, tickValue}
+use Rattle.frame_reports.specs.Values.{heardAs, valueAs, tickValue}
 
 sound-heard : (k : WaveformType) → soundingOf k ≡ kinds.Oscillator → (s : Setting) (p : PcmRegisters) (w ram : List ℕ) (ch : ℕ) (own : Bool) (t : Target) (v : Sound) → 0 < length ram
     → soundTicks 1 k s p w ram ch own t v .sides ≡ heard (v .sides) (volumeOf (soundValue k s p w ram ch (targetFor own t (v .oscillator)) (v .oscillator)) (s .volume)) (s .panpot)

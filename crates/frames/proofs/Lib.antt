@@ -10,9 +10,7 @@ pub mod Loop
 pub mod Asks
 pub mod Framing
 pub mod Wells
-pub mod Heard
 pub mod OneVoice
-pub mod Endings
 pub mod Counts
 pub mod Playing
 pub mod Calling

@@ -2,6 +2,4 @@ pub mod Ticking
 pub mod Turning
 pub mod Listing
 pub mod Stored
-pub mod Values
-pub mod Ending
 pub mod Kept

@@ -16,8 +16,8 @@ use Rattle.voices.specs.Actives.{Actives, endedSince}
 use Rattle.voices.specs.declared.Core.{Core}
 use Rattle.frames.specs.Ticking.{voiced, voiceTick, voiceTicks}
 use Rattle.frames.specs.Turning.{turned, frame, frames}
-use Rattle.frames.specs.Ending.{turnedOff, tickEnds, framesEnded}
-use Rattle.frames.proofs.Endings.{ended-active}
+use Rattle.frame_reports.specs.Ending.{turnedOff, tickEnds, framesEnded}
+use Rattle.frame_reports.proofs.Endings.{ended-active}
 use Rattle.s3w2.specs.Mixing.{Mix, mixed}
 
 module _ (version : SguVersion) (ram : List ℕ) (queues : List ℤ) where

@@ -14,7 +14,7 @@ use Rattle.voices.specs.Core.{channelAt}
 use Rattle.voices.specs.declared.Core.{Core}
 use Rattle.voices.specs.Accepted.{acceptsCore}
 use Rattle.frames.specs.Turning.{noTurn, turned, runOf, singleTick, afterTurns}
-use Rattle.frames.specs.Ending.{turnedOff}
+use Rattle.frame_reports.specs.Ending.{turnedOff}
 use Rattle.frames.specs.declared.Turned.{Turned}
 use Rattle.frames.proofs.Asks.{asked, ran}
 use Rattle.s3w2.specs.declared.Chip.{Chip}

@@ -9,7 +9,7 @@ use Rattle.sizes.specs.Sizes.{numChannels}
 use Rattle.ticks.specs.Mix.{silence}
 use Rattle.frames.specs.Ticking.{voiced}
 use Rattle.frames.specs.Turning.{Turns, turned, frames}
-use Rattle.frames.specs.Ending.{tickEnds, framesEnded}
+use Rattle.frame_reports.specs.Ending.{tickEnds, framesEnded}
 use Rattle.s3w2.specs.declared.Chip.{Chip}
 use Rattle.s3w2.specs.declared.Called.{Called}
 use Rattle.s3w2.specs.declared.Answer.the-variants.{Sample, Ended}
