@@ -36,10 +36,10 @@ use Rattle.resume.proofs.Second.{headedChip, head-called, headed-held, read-on}
 use Rattle.log_player.specs.declared.Player.{Player}
 use Rattle.log_player.specs.Worlds.{World, withChip, freshPlayer}
 use Rattle.log_state.specs.declared.Taken.{Taken}
-use Rattle.log_state.specs.Lines.{stateLine, stateLines, stateText, takeLine, takeLineQueues}
+use Rattle.log_state.specs.Lines.{stateLine, stateLines, stateText, ownLine, takeLine, takeLineQueues}
 use Rattle.log_state.specs.Loads.{Load, readLines}
 use Rattle.log_state.specs.Loads as load
-use Rattle.log_state.proofs.Stated.{state-ended, read-next, take-head, take-head-queues, take-voice, take-voice-queues, head-line, voice-line}
+use Rattle.log_state.proofs.Stated.{state-ended, read-next, take-head, take-head-queues, take-voice, take-voice-queues, head-line, voice-own}
 use Rattle.log_resume.specs.Cuts.{machineOf, fresh, loaded}
 use Rattle.log_resume.proofs.Fresh.{fresh-second}
 
@@ -107,7 +107,7 @@ module _ (w : World) (h : HeldMachine (machineOf w)) where
   voices (suc n) i g f b p q k e more ram =
       let here : i < 8 = omega arith in
       let l : List ℕ = stateLine chip size (w .queues) (suc i) in
-      let is : l ≡ line i = voice-line chip size (w .queues) i in
+      let is : ownLine i l ≡ line i = voice-own chip size (w .queues) i (omega arith) in
       let rest : List ℕ = stateLines chip size (w .queues) n (suc (suc i)) in
       let done : takeLine false p ram q (suc i) l .answer ≡ Done = ap (λ (t : Taken). t .answer) (take-voice false p ram q l i) ∙ ap (λ (t : List ℕ). readVoiceCalled (p .chip) q t .answer) is ∙ is-done (p .chip) q k e i here in
       let player : takeLine false p ram q (suc i) l .player ≡ withChip p (readVoiceCalled (p .chip) q (line i) .chip) = ap (λ (t : Taken). t .player) (take-voice false p ram q l i) ∙ ap (λ (t : List ℕ). withChip p (readVoiceCalled (p .chip) q t .chip)) is in

@@ -2,15 +2,19 @@
 use mathlib.Core.Path.{_≡_, refl, sym, ap, ap₂, _∙_}
 use mathlib.Core.Bool.{Bool, true, false, cond}
 use mathlib.Core.List.{List, [], _∷_, _++_, append-assoc, append-nil}
-use Prim.Native.Nat.{ℕ, zero, suc, _+_, _-_, _/_, _%_, _≤_, _<_}
+use Prim.Native.Nat.{ℕ, zero, suc, _+_, _-_, _/_, _%_, _^_, _≤_, _<_}
 use native.Mathlib.Omega.{arith}
 use lib.Dec.{eqb, ltb}
 use lib.IntN.{ℤ, pos, negsuc}
 use lib.ListN.{length, take, drop, getD, length-append}
 use lib.Seq.{sets, take-append-seam, drop-append-seam}
-use borrow.Author.Tests.{ne-eqb, le-leb, lt-leb}
+use borrow.Author.Tests.{eq-eqb, ne-eqb, le-leb, lt-leb}
 use Rattle.sizes.specs.Sizes.{queueBuffer}
 use Rattle.decimal.specs.Written.{digitsIn, decimal, render}
+use Rattle.decimal.specs.Read.{digitsOf, naturalAt}
+use Rattle.decimal.specs.declared.TakenNatural.{TakenNatural}
+use Rattle.decimal.specs.declared.TakenNatural.the-variants.{Natural}
+use Rattle.decimal.proofs.RoundTrip.{natural-back}
 use Rattle.line_fields.specs.Table.{isSample, sampleOfNumber}
 use Rattle.line_fields.specs.Text.{fieldText, partText, partsText, lineText, writtenOf, putOf}
 use Rattle.tone.specs.Pcm.{isRamLength}
@@ -18,6 +22,7 @@ use Rattle.version.specs.declared.SguVersion.{SguVersion}
 use Rattle.version.specs.Versions.{versionNumber}
 use Rattle.session_lines.specs.Head.{headText}
 use Rattle.session_lines.specs.Lines.{voiceText}
+use Rattle.session_lines.specs.Numbers.{stateNumbers, fieldNumbers}
 use Rattle.s3w2.specs.Refusals.{acceptsChip}
 use Rattle.s3w2.specs.declared.Chip.{Chip}
 use Rattle.session.specs.declared.LineAnswer.{LineAnswer}
@@ -29,7 +34,7 @@ use Rattle.session.specs.Voices.{lineOfVoice, writeVoiceAnswer, writeVoiceText,
 use Rattle.log_player.specs.declared.Player.{Player}
 use Rattle.log_player.specs.Steps.{firstLine}
 use Rattle.log_state.specs.declared.Found.the-variants.{Line}
-use Rattle.log_state.specs.Lines.{stateLine, putLineAnswer, putLineText, takenBy, takeLine, takeLineQueues}
+use Rattle.log_state.specs.Lines.{stateLine, putLineAnswer, putLineText, takenBy, isNatural, ownLine, takeLine, takeLineQueues}
 use Rattle.log_state.specs.Loads.{frontLine, behindLine, goesOn, readLines}
 use Rattle.log_state.specs.Finding.{soundLine, foundAt}
 
@@ -177,6 +182,18 @@ module _ (chip : Chip) (ram : ℕ) (queues : List ℤ) (k : ℕ) where
   pub state-found : (at : ℕ) (rest : List ℕ) → k ≤ 8 → foundAt (stateLine chip ram queues k ++ rest) at k ≡ Line (at + length (stateLine chip ram queues k))
   state-found at rest h = found (stateLine chip ram queues k) rest (state-ended h) at k (no-sound rest)
 
+-- ---- a line read as the voice's that its first field names
+first-field : (i n : ℕ) (ns : List ℕ) → i < 2 ^ 64 → naturalAt (lineText (i ∷ n ∷ ns)) 0 ≡ Natural i (0 + length (decimal i))
+unfolding lineText partsText partText fieldText isSample
+first-field i n ns h =
+    natural-back i (lineText (i ∷ n ∷ ns)) (partsText 1 (n ∷ ns) ++ (10 ∷ [])) 0 h (append-assoc (decimal i) (partsText 1 (n ∷ ns)) (10 ∷ [])) refl
+
+own-text : (i n : ℕ) (ns : List ℕ) → i < 2 ^ 64 → ownLine i (lineText (i ∷ n ∷ ns)) ≡ lineText (i ∷ n ∷ ns)
+unfolding ownLine
+own-text i n ns h =
+    ap (λ (t : TakenNatural). cond (isNatural i t) (lineText (i ∷ n ∷ ns)) []) (first-field i n ns h)
+    ∙ ap (λ (b : Bool). cond b (lineText (i ∷ n ∷ ns)) []) (eq-eqb i i refl)
+
 -- ---- the head and the voices by their lines
 module _ (stored : Bool) (p : Player) (ram : ℕ) (queues : List ℤ) (text : List ℕ) where
   pub take-head : takeLine stored p ram queues 0 text ≡ takenBy p (readHeadCalled (p .chip) ram text)
@@ -187,13 +204,15 @@ module _ (stored : Bool) (p : Player) (ram : ℕ) (queues : List ℤ) (text : Li
   unfolding takeLineQueues
   take-head-queues = refl
 
-  pub take-voice : (i : ℕ) → takeLine stored p ram queues (suc i) text ≡ takenBy p (voiceReadCalled stored (p .chip) queues text)
+  pub take-voice : (i : ℕ) → takeLine stored p ram queues (suc i) text ≡ takenBy p (voiceReadCalled stored (p .chip) queues (ownLine i text))
   unfolding takeLine
-  take-voice i = rw (ne-eqb (suc i) 0 (λ e. absurd (omega arith)))
+  take-voice i =
+      rw (ne-eqb (suc i) 0 (λ e. absurd (omega arith))) (ap (λ (j : ℕ). takenBy p (voiceReadCalled stored (p .chip) queues (ownLine j text))) (omega arith))
 
-  pub take-voice-queues : (i : ℕ) → takeLineQueues stored p queues (suc i) text ≡ voiceReadQueues stored (p .chip) queues text
+  pub take-voice-queues : (i : ℕ) → takeLineQueues stored p queues (suc i) text ≡ voiceReadQueues stored (p .chip) queues (ownLine i text)
   unfolding takeLineQueues
-  take-voice-queues i = rw (ne-eqb (suc i) 0 (λ e. absurd (omega arith)))
+  take-voice-queues i =
+      rw (ne-eqb (suc i) 0 (λ e. absurd (omega arith))) (ap (λ (j : ℕ). voiceReadQueues stored (p .chip) queues (ownLine j text)) (omega arith))
 
 module _ (chip : Chip) (ram : ℕ) (queues : List ℤ) where
   pub head-line : stateLine chip ram queues 0 ≡ headText (chip .version) ram
@@ -205,3 +224,8 @@ module _ (chip : Chip) (ram : ℕ) (queues : List ℤ) where
   voice-line i =
       ap (λ (b : Bool). cond b (headText (chip .version) ram) (lineOfVoice chip queues (suc i - 1))) (ne-eqb (suc i) 0 (λ e. absurd (omega arith)))
       ∙ ap (lineOfVoice chip queues) (omega arith)
+
+  -- the line of a voice begins with its number
+  pub voice-own : (i : ℕ) → i ≤ 7 → ownLine i (stateLine chip ram queues (suc i)) ≡ lineOfVoice chip queues i
+  unfolding lineOfVoice voiceText fieldNumbers stateNumbers
+  voice-own i h = ap (ownLine i) (voice-line i) ∙ rw (le-leb i 7 h) (own-text i _ _ (omega arith))

@@ -1,10 +1,13 @@
 -- The lines of a state, written and read.
-use mathlib.Core.Bool.{Bool, cond}
+use mathlib.Core.Bool.{Bool, false, cond}
 use mathlib.Core.List.{List, [], _++_}
 use Prim.Native.Nat.{ℕ, zero, suc, _-_}
 use lib.Dec.{eqb}
 use lib.IntN.{ℤ}
 use lib.ListN.{length}
+use Rattle.decimal.specs.Read.{naturalAt}
+use Rattle.decimal.specs.declared.TakenNatural.{TakenNatural}
+use Rattle.decimal.specs.declared.TakenNatural.the-variants.{Natural, NoNatural}
 use Rattle.session_lines.specs.Head.{headText}
 use Rattle.s3w2.specs.declared.Chip.{Chip}
 use Rattle.session.specs.declared.LineAnswer.{LineAnswer}
@@ -38,11 +41,19 @@ putLineText chip ram queues k out = cond (eqb k 0) (writeHeadText chip ram out) 
 
 -- ---- a line read, as a stored one or as any: the peaks stay
 
+abbrev pub isNatural : ℕ → TakenNatural → Bool
+isNatural n (Natural m next) = eqb m n
+isNatural n NoNatural = false
+
+-- voice lines stand in order: one that does not begin with its voice's number is read as an empty one, which is malformed at field 1
+unfoldable pub ownLine : ℕ → List ℕ → List ℕ
+ownLine ch text = cond (isNatural ch (naturalAt text 0)) text []
+
 abbrev pub takenBy : Player → LineCalled → Taken
 takenBy p called = record { player = withChip p (called .chip); answer = called .answer }
 
 unfoldable pub takeLine : Bool → Player → ℕ → List ℤ → ℕ → List ℕ → Taken
-takeLine stored p ram queues k text = takenBy p (cond (eqb k 0) (readHeadCalled (p .chip) ram text) (voiceReadCalled stored (p .chip) queues text))
+takeLine stored p ram queues k text = takenBy p (cond (eqb k 0) (readHeadCalled (p .chip) ram text) (voiceReadCalled stored (p .chip) queues (ownLine (k - 1) text)))
 
 unfoldable pub takeLineQueues : Bool → Player → List ℤ → ℕ → List ℕ → List ℤ
-takeLineQueues stored p queues k text = cond (eqb k 0) queues (voiceReadQueues stored (p .chip) queues text)
+takeLineQueues stored p queues k text = cond (eqb k 0) queues (voiceReadQueues stored (p .chip) queues (ownLine (k - 1) text))

@@ -1,8 +1,10 @@
 // One line of a state, written or read: line 0 is the head, line k that of voice k - 1.
 ghost use mathlib.Core.Path.{_≡_};
 ghost use lib.ListN.{length};
-ghost use Rattle.log_state.specs.Lines.{putLineAnswer, putLineText, takenBy, takeLine, takeLineQueues};
+ghost use Rattle.decimal.specs.Read.{naturalAt};
+ghost use Rattle.log_state.specs.Lines.{putLineAnswer, putLineText, takenBy, isNatural, ownLine, takeLine, takeLineQueues};
 use crate::Taken;
+use decimal::TakenNatural;
 use log_player::Player;
 use session::LineAnswer;
 use session::LineCalled;
@@ -35,7 +37,27 @@ fn taken(player: Player, called: LineCalled) -> Taken
     }
 }
 
-// Reads line k, as a stored line or as any. A voice line sets the voice that its first field names.
+fn begins_with(text: &[u8], number: usize) -> bool
+    ensures { λ r. ⌜ r ≡ isNatural number (naturalAt (now (text .entry)) 0) ⌝ }
+{
+    let taken = decimal::take_natural(text, 0);
+    match taken {
+        TakenNatural::Natural { value, next: _ } => value == (number as u64),
+        TakenNatural::NoNatural => false,
+    }
+}
+
+// A voice line that begins with the voice's number; an empty one in the place of any other.
+fn own_line(text: &[u8], ch: usize) -> &[u8]
+    ensures { λ r. ⌜ now r ≡ ownLine ch (now (text .entry)) ⌝ }
+{
+    if begins_with(text, ch) {
+        return text;
+    }
+    num::part(text, 0, 0)
+}
+
+// Reads line k, as a stored line or as any. A voice line that is not that of voice k - 1 is malformed at its first field.
 pub fn take_line(
     stored: bool,
     player: Player,
@@ -51,8 +73,9 @@ pub fn take_line(
     if k == 0 {
         return taken(player, session::read_head(chip, ram, text));
     }
+    let line = own_line(text, k - 1);
     if stored {
-        return taken(player, session::read_stored_voice(chip, queues, text));
+        return taken(player, session::read_stored_voice(chip, queues, line));
     }
-    taken(player, session::read_voice(chip, queues, text))
+    taken(player, session::read_voice(chip, queues, line))
 }
