@@ -7,11 +7,12 @@ mod saving;
 use log_player::Player;
 use sizes::QUEUE_BUFFER;
 
-pub(crate) enum Program {
-    Log,
-    Save,
-    Load,
-    LoadStored,
+// A program over a log: whether it reads a state before the log, with voice lines as stored ones or as any, and whether it
+// prints the state in which the log leaves the player, and not the peaks.
+pub(crate) struct Program {
+    pub loads: bool,
+    pub stored: bool,
+    pub saves: bool,
 }
 
 // A run of a program: the bytes of the input buffer from `from` to before `filled` are not played yet, and begin with line
@@ -43,20 +44,28 @@ fn start(program: Program) {
 
 // Plays the log on standard input and prints what it gives on standard output.
 pub fn play_log() {
-    start(Program::Log);
+    start(Program {
+        loads: false,
+        stored: false,
+        saves: false,
+    });
 }
 
 // The same, and instead of the peaks the state in which the log leaves the player.
 pub fn save_log() {
-    start(Program::Save);
+    start(Program {
+        loads: false,
+        stored: false,
+        saves: true,
+    });
 }
 
-// Reads such a state, and goes on with the log behind it.
-pub fn load_log() {
-    start(Program::Load);
-}
-
-// The same, its voice lines read as stored ones: a chip without a FIFO drops what they have in their queues.
-pub fn load_stored_log() {
-    start(Program::LoadStored);
+// Reads such a state, and goes on with the log behind it; at its end it prints the peaks, or the state again. As a stored one
+// a state is read on a chip without a FIFO too that has something in its queues, and that is dropped.
+pub fn load_log(stored: bool, saves: bool) {
+    start(Program {
+        loads: true,
+        stored,
+        saves,
+    });
 }

@@ -9,10 +9,9 @@ use log_player::Player;
 use log_state::Found;
 use session::LineAnswer;
 
-// A state of which the lines before line k were read, as stored ones or as any: the bytes of the input buffer from `from` to
-// before `filled` follow them.
+// A state of which the lines before line k were read: the bytes of the input buffer from `from` to before `filled` follow them.
 struct Load {
-    stored: bool,
+    program: Program,
     player: Player,
     from: usize,
     filled: usize,
@@ -20,9 +19,9 @@ struct Load {
     going: bool,
 }
 
-fn refused(player: Player) -> Load {
+fn refused(program: Program, player: Player) -> Load {
     Load {
-        stored: false,
+        program,
         player,
         from: 0,
         filled: 0,
@@ -41,18 +40,19 @@ fn take(
     ram: &[u8],
     queues: &mut [i16],
 ) -> Load {
+    let program = load.program;
     let player = load.player;
     let k = num::least(load.k, 8);
-    let taken = log_state::take_line(load.stored, player, ram, queues, k, line);
+    let taken = log_state::take_line(program.stored, player, ram, queues, k, line);
     let after = taken.player;
     let answer = taken.answer;
     let LineAnswer::Done = answer else {
         let end = log_state::put_refusal(answer, &mut *text, 0);
-        written(Program::Load, text, end);
-        return refused(after);
+        written(program, text, end);
+        return refused(program, after);
     };
     Load {
-        stored: load.stored,
+        program,
         player: after,
         from: behind,
         filled,
@@ -70,12 +70,13 @@ fn extend(
     ram: &[u8],
     queues: &mut [i16],
 ) -> Load {
+    let program = load.program;
     let player = load.player;
     let kept = program::keep(&mut *input, load.from, end);
-    let read = read_behind(Program::Load, &mut *input, kept);
+    let read = read_behind(program, &mut *input, kept);
     match read {
         Input::More(more) => Load {
-            stored: load.stored,
+            program,
             player,
             from: 0,
             filled: more,
@@ -86,12 +87,13 @@ fn extend(
             let line = num::part(input, 0, kept);
             take(load, line, kept, kept, text, ram, queues)
         }
-        Input::Failed => refused(player),
+        Input::Failed => refused(program, player),
     }
 }
 
 // Looks for line k.
 fn look(load: Load, input: &mut [u8], text: &mut [u8], ram: &[u8], queues: &mut [i16]) -> Load {
+    let program = load.program;
     let player = load.player;
     let from = load.from;
     let filled = load.filled;
@@ -102,7 +104,7 @@ fn look(load: Load, input: &mut [u8], text: &mut [u8], ram: &[u8], queues: &mut 
             take(load, line, behind, filled, text, ram, queues)
         }
         Found::Sound(behind) => Load {
-            stored: load.stored,
+            program,
             player,
             from: behind,
             filled,
@@ -135,14 +137,14 @@ fn load_lines(
 }
 
 // Reads on until the RAM, of which `have` bytes are there, is full: how many there are then.
-fn fill(ram: &mut [u8], have: usize) -> Input {
+fn fill(program: Program, ram: &mut [u8], have: usize) -> Input {
     let mut got = have;
     let mut turns = ram.len();
     while 0 < turns {
         if ram.len() <= got {
             return Input::More(got);
         }
-        let read = read_behind(Program::Load, &mut *ram, got);
+        let read = read_behind(program, &mut *ram, got);
         let Input::More(more) = read else {
             return read;
         };
@@ -154,11 +156,12 @@ fn fill(ram: &mut [u8], have: usize) -> Input {
 
 // Reads the RAM behind the lines.
 fn load_ram(load: Load, input: &[u8], text: &mut [u8], ram: &mut [u8]) -> Run {
+    let program = load.program;
     let player = load.player;
     let from = load.from;
     let filled = load.filled;
     let got = decimal::put_text(&mut *ram, 0, num::part(input, from, filled));
-    let read = fill(ram, got);
+    let read = fill(program, ram, got);
     match read {
         Input::More(_) => Run {
             player,
@@ -169,19 +172,10 @@ fn load_ram(load: Load, input: &[u8], text: &mut [u8], ram: &mut [u8]) -> Run {
         },
         Input::End => {
             let end = log_state::put_short(&mut *text, 0);
-            written(Program::Load, text, end);
+            written(program, text, end);
             stopped(player)
         }
         Input::Failed => stopped(player),
-    }
-}
-
-fn reads_stored(program: Program) -> bool {
-    match program {
-        Program::Log => false,
-        Program::Save => false,
-        Program::Load => false,
-        Program::LoadStored => true,
     }
 }
 
@@ -196,7 +190,7 @@ pub(crate) fn load_state(
 ) -> Run {
     let player = fresh.player;
     let first = Load {
-        stored: reads_stored(program),
+        program,
         player,
         from: 0,
         filled: 0,

@@ -4,11 +4,12 @@ pub(crate) use program::Input;
 use program::say;
 
 pub(crate) fn complain(program: Program, reason: &[u8]) {
-    match program {
-        Program::Log => say(b"s3w2-log: "),
-        Program::Save => say(b"s3w2-save: "),
-        Program::Load => say(b"s3w2-load: "),
-        Program::LoadStored => say(b"s3w2-load: "),
+    if program.loads {
+        say(b"s3w2-load: ");
+    } else if program.saves {
+        say(b"s3w2-save: ");
+    } else {
+        say(b"s3w2-log: ");
     }
     say(reason);
 }

@@ -44,34 +44,17 @@ fn refused(program: Program, player: Player) -> Run {
     stopped(player)
 }
 
-fn loads(program: Program) -> bool {
-    match program {
-        Program::Log => false,
-        Program::Save => false,
-        Program::Load => true,
-        Program::LoadStored => true,
-    }
-}
-
-// Whether a state follows the last line of a log, behind whose byte 10 `rest` bytes are left.
-fn saves(program: Program, rest: usize) -> bool {
-    match program {
-        Program::Log => false,
-        Program::Save => rest == 0,
-        Program::Load => false,
-        Program::LoadStored => false,
-    }
-}
-
-// Prints what follows the last line: the peaks, or the state.
+// Prints what follows the last line, behind whose byte 10 `rest` bytes are left: the state, the peaks, or that they are a bad line.
 fn end(program: Program, ran: Ran, rest: usize, text: &mut [u8], ram: &[u8], queues: &[i16]) {
     let player = ran.player;
-    if saves(program, rest) {
-        save(player, text, ram, queues);
-    } else {
-        let end = player.finish(rest, ran.number, &mut *text, 0);
-        written(program, text, end);
+    if rest == 0 {
+        if program.saves {
+            save(program, player, text, ram, queues);
+            return;
+        }
     }
+    let end = player.finish(rest, ran.number, &mut *text, 0);
+    written(program, text, end);
 }
 
 // Goes on with more input, or ends the text where there is none.
@@ -152,7 +135,7 @@ fn first(
     if !fresh.going {
         return fresh;
     }
-    if loads(program) {
+    if program.loads {
         return load_state(program, fresh, input, text, ram, queues);
     }
     fresh

@@ -6,10 +6,10 @@ use Rattle.log_program.proofs.loading.fill.Statement.{statement}
 use Rattle.log_program.proofs.loading.fill.Tie as tie
 
 abbrev Inv-loop : tie.InvT-loop
-Inv-loop ram₀ have got₀ turns₀ ram got turns = length ram ≡ length ram₀
+Inv-loop program ram₀ have got₀ turns₀ ram got turns = length ram ≡ length ram₀
 
 abbrev μ-loop : tie.MeasureT-loop
-μ-loop ram₀ have got₀ turns₀ ram got turns = turns
+μ-loop program ram₀ have got₀ turns₀ ram got turns = turns
 
 loop-holds : tie.Need-loop-holds Inv-loop μ-loop
 loop-holds c = refl

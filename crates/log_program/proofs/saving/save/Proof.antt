@@ -7,10 +7,10 @@ use Rattle.log_program.proofs.saving.save.Statement.{statement}
 use Rattle.log_program.proofs.saving.save.Tie as tie
 
 abbrev Inv-loop : tie.InvT-loop
-Inv-loop player text₀ ram queues k₀ text k = length text ≡ length text₀
+Inv-loop program player text₀ ram queues k₀ text k = length text ≡ length text₀
 
 abbrev μ-loop : tie.MeasureT-loop
-μ-loop player text₀ ram queues k₀ text k = 9 - k
+μ-loop program player text₀ ram queues k₀ text k = 9 - k
 
 loop-holds : tie.Need-loop-holds Inv-loop μ-loop
 loop-holds c = refl

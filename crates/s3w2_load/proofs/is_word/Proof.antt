@@ -1,14 +1,15 @@
 use Prim.Native.Nat.{_-_}
 use native.Mathlib.Omega.{arith}
+use lib.ListN.{length}
 use borrow.Author.Needs.{needs}
-use Rattle.s3w2_load.proofs.is_stored.Statement.{statement}
-use Rattle.s3w2_load.proofs.is_stored.Tie as tie
+use Rattle.s3w2_load.proofs.is_word.Statement.{statement}
+use Rattle.s3w2_load.proofs.is_word.Tie as tie
 
 abbrev Inv-loop : tie.InvT-loop
-Inv-loop name word length i₀ i = Unit {0}
+Inv-loop k name word found i₀ i = Unit {0}
 
 abbrev μ-loop : tie.MeasureT-loop
-μ-loop name word length i₀ i = 8 - i
+μ-loop k name word found i₀ i = length name - i
 
 slice-aggregate-arg : tie.Need-slice-aggregate-arg Inv-loop μ-loop
 slice-aggregate-arg c = search needs
@@ -22,11 +23,14 @@ returns c = search needs
 loop-holds : tie.Need-loop-holds Inv-loop μ-loop
 loop-holds c = tt
 
-array-read-if2 : tie.Need-array-read-if2 Inv-loop μ-loop
-array-read-if2 c = search needs
+slice-aggregate-byte-at : tie.Need-slice-aggregate-byte-at Inv-loop μ-loop
+slice-aggregate-byte-at c = search needs
 
-element-copy-out-if2 : tie.Need-element-copy-out-if2 Inv-loop μ-loop
-element-copy-out-if2 c = search needs
+byte-at-requires : tie.Need-byte-at-requires Inv-loop μ-loop
+byte-at-requires c κs = search needs
+
+byte-at-requires-2 : tie.Need-byte-at-requires-2 Inv-loop μ-loop
+byte-at-requires-2 c κs = search needs
 
 returns-2 : tie.Need-returns-2 Inv-loop μ-loop
 returns-2 c = search needs
@@ -43,8 +47,8 @@ loop-again c = tt
 returns-3 : tie.Need-returns-3 Inv-loop μ-loop
 returns-3 c = search needs
 
-pub is-stored-spec : {M : Type 1} → statement M
-is-stored-spec =
+pub is-word-spec : {M : Type 1} → statement M
+is-word-spec =
     tie.close
     (tie.spec
     Inv-loop
@@ -53,8 +57,9 @@ is-stored-spec =
     arg-requires
     returns
     loop-holds
-    array-read-if2
-    element-copy-out-if2
+    slice-aggregate-byte-at
+    byte-at-requires
+    byte-at-requires-2
     returns-2
     add-i
     loop-less
