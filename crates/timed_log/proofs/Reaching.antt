@@ -25,7 +25,7 @@ use Rattle.timed_log.specs.Unrolled.{clockMost, clockLine, clockText, cl
 use Rattle.timed_log.specs.Unrolls.{lineRoom, hasPlace, Reach, reach, gapText, reachBehind, aheadOf, onLine, unrollOn, unrollFrom, unrolledAs, unrolledTo}
 use Rattle.timed_log.proofs.Found.{Found, found-is, dueText, due-short, part-length}
 use Rattle.timed_log.proofs.Puts.{gap-none, gap-some}
-use Rattle.timed_log.proofs.Places.{place-is}
+use Rattle.timed_log.proofs.Places.{place-is, place-there}
 
 -- ---- how long it gets
 clock-length : (n : ℕ) → n ≤ clockMost → length (clockText n) ≤ 7
@@ -95,6 +95,24 @@ module _ (room : ℕ) (input : List ℕ) where
       go : (t : Bool) → Next → cond t (onLine input s (unrollOn room input n) (aheadOf input s)) s ≡ cond t (onLine input s (unrollOn room input m) (aheadOf input s)) s
       go true ih = goes (aheadOf input s) refl ih
       go false ih = refl
+
+  -- ---- it stays within the buffer
+  bounded : (n : ℕ) (s : Reach) → length (s .text) ≤ room → length (unrollOn room input n s .text) ≤ room
+  unfolding unrollOn
+  bounded zero s h = h
+  bounded (suc n) s h =
+      cond-by (λ (r : Reach). length (r .text) ≤ room) (hasPlace room (length (s .text)) (s .number)) _ _
+      (λ p. go (aheadOf input s) refl (place-there true room (length (s .text)) (s .number) (sym p) refl) (λ t. bounded n t)) (λ p. h)
+    where
+      go : (x : Ahead) → aheadOf input s ≡ x → length (s .text) + lineRoom ≤ room → ((t : Reach) → length (t .text) ≤ room → length (unrollOn room input n t .text) ≤ room)
+          → length (onLine input s (unrollOn room input n) x .text) ≤ room
+      go (Line stamp from to) e p ih = ih (reachBehind input s stamp from to) (omega (arith, adds s stamp from to e .few))
+      go Rest e p ih = h
+      go (Bad why) e p ih = h
+
+  pub unroll-within : (s : Reach) → length (s .text) ≤ room → length (unrollFrom room input s .text) ≤ room
+  unfolding unrollFrom
+  unroll-within s h = bounded room s h
 
   -- ---- from a place on
   once : (s : Reach) (stamp from to : ℕ) → hasPlace room (length (s .text)) (s .number) ≡ true → aheadOf input s ≡ Line stamp from to

@@ -35,7 +35,7 @@ pub struct Clockwork {
 
 // What an input holds at a place: a line, its stamp, where the plain line in it begins and the place behind it; no whole line; a bad
 // line, and the number of why it is one.
-pub(crate) enum Ahead {
+pub enum Ahead {
     Line { stamp: u32, from: usize, to: usize },
     Rest,
     Bad(u8),
