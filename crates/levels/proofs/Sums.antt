@@ -1,15 +1,16 @@
 -- Sums and largest values, one value more. Assumes nothing.
 use mathlib.Core.Path.{_≡_, refl}
-use mathlib.Core.Bool.{Bool}
+use mathlib.Core.Bool.{Bool, true, false}
 use mathlib.Core.List.{List}
 use Prim.Native.Nat.{ℕ, _+_, _*_, _/_, _%_, _≤_, _<_, _^_, max}
 use native.Mathlib.Nat as N
 use native.Mathlib.Numerals.{add-one}
 use native.Mathlib.Omega.{arith}
-use lib.IntN.{ℤ, pos, natAbs}
+use lib.IntN.{ℤ, pos, negsuc, natAbs}
 use lib.ListN.{length, getD}
+use lib.Signed.{ltZ}
 use borrow.Author.Tests.{le-leb, lt-leb}
-use Rattle.levels.specs.Levels.{measureOf, sumWith, stemPeak, voicePeak}
+use Rattle.levels.specs.Levels.{overOf, measureOf, sumWith, stemPeak, voicePeak}
 
 pub square-small : (n : ℕ) → n ≤ 2147483648 → n * n < 2 ^ 64
 square-small n h = omega (arith, N.mul-le-mul h h)
@@ -37,3 +38,13 @@ no-voice before channel stems h = rw (le-leb 8 channel h)
 pub a-voice : (before channel r : ℕ) (stems : List ℤ) → channel ≤ 7 → r ≡ stemPeak before stems channel (length stems / 16) → r ≡ voicePeak before stems channel
 unfolding voicePeak
 a-voice before channel r stems h e = rw (lt-leb 8 channel (omega arith)) e
+
+-- ---- over
+pub over-low : (z : ℤ) → ltZ z (negsuc 32767) ≡ true → 1 ≡ overOf z
+over-low z a = rw a
+
+pub over-high : (z : ℤ) → ltZ z (negsuc 32767) ≡ false → ltZ (pos 32767) z ≡ true → 1 ≡ overOf z
+over-high z a b = rw (a, b)
+
+pub not-over : (z : ℤ) → ltZ z (negsuc 32767) ≡ false → ltZ (pos 32767) z ≡ false → 0 ≡ overOf z
+not-over z a b = rw (a, b)
