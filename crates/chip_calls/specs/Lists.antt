@@ -11,17 +11,6 @@ use Rattle.frames.specs.Listing.{readRegisterKind, askedOf}
 use Rattle.s3w2.specs.Plays.{Playing, ownStems, callsPlayed}
 use Rattle.call_lists.specs.Calls.{Call, setVersion, writeRegister, readRegister, peekRegister, writePcmRam, clock}
 
--- the first n of a list of addresses and values, one after the other
-unfoldable pub callsFor : (ℕ → ℕ → Call) → ℕ → List ℕ → List ℕ → List Call
-callsFor write zero addresses values = []
-callsFor write (suc n) addresses values = callsFor write n addresses values ++ (write (getD addresses n 0) (getD values n 0) ∷ [])
-
-abbrev pub registerCalls : ℕ → List ℕ → List ℕ → List Call
-registerCalls n addresses values = callsFor writeRegister n addresses values
-
-abbrev pub byteCalls : ℕ → List ℕ → List ℕ → List Call
-byteCalls n addresses values = callsFor writePcmRam n addresses values
-
 -- ---- a list of calls: the call that call i stands for, none where it asks for nothing
 module _ (kinds addresses : List ℕ) where
   abbrev pub singleCall : Asked → ℕ → Playing → List Call

@@ -86,6 +86,7 @@ fn play_runs(
         (lentList core version (now (ram .entry)) (now (queues .entry)) (now (values .entry))) .stems) ⌝ }
     ensures { λ _. ⌜ EachAccepted (now (kinds .entry)) (now (addresses .entry)) 0 4 0 count
         (lentList core version (now (ram .entry)) (now (queues .entry)) (now (values .entry))) ⌝ }
+    ensures { λ r. ⌜ acceptsCore (r .core) (r .version) (length (now (ram .entry))) ≡ true ⌝ }
 {
     let mut core = core;
     let mut version = version;
@@ -157,6 +158,8 @@ pub fn play(
         → EachAccepted (now (kinds .entry)) (now (addresses .entry)) 0 4 0
         (callCount (now (kinds .entry)) (now (addresses .entry)) (now (values .entry)))
         (lentList core version (now (ram .entry)) (now (queues .entry)) (now (values .entry)))) ⌝ }
+    ensures { λ r. ⌜ (acceptsCore core version (length (now (ram .entry))) ≡ true
+        → acceptsCore (r .core) (r .version) (length (now (ram .entry))) ≡ true) ⌝ }
 {
     if may_run(core, version, &*ram, &*queues, 4) {
         if fills(kinds, addresses, &*values, stems.len()) {

@@ -1,7 +1,7 @@
--- A byte that a line writes is a byte. Assumes nothing.
+-- A byte that a line writes is a byte, and a line clocks at most 1,000 frames. Assumes nothing.
 use mathlib.Core.Bool.{cond}
 use mathlib.Core.List.{List}
-use Prim.Native.Nat.{ℕ, _<_, _+_}
+use Prim.Native.Nat.{ℕ, _≤_, _<_, _+_}
 use native.Mathlib.Omega.{arith}
 use lib.Dec.{eqb, leb}
 use lib.ListN.{length, getD}
@@ -50,7 +50,7 @@ FitLine (Write a v) = v < 256
 FitLine (WriteRam a v) = v < 256
 FitLine (Read a) = Unit {0}
 FitLine (Peek a) = Unit {0}
-FitLine (Clock n) = Unit {0}
+FitLine (Clock n) = n ≤ 1000
 FitLine (Version v) = Unit {0}
 FitLine Malformed = Unit {0}
 FitLine Unmapped = Unit {0}
@@ -75,9 +75,9 @@ peek-fits : (o : One) → FitLine (peekOf o)
 peek-fits (Number a) = addressed-fits 80 a (Peek a) tt
 peek-fits NoNumber = tt
 
-clock-fits : (o : One) → FitLine (clockOf o)
-clock-fits (Number n) = cond-by FitLine (eqb n 0) Malformed (Clock n) (λ e. tt) (λ e. tt)
-clock-fits NoNumber = tt
+clock-fits : (o : One) → Within 1000 o → FitLine (clockOf o)
+clock-fits (Number n) h = cond-by FitLine (eqb n 0) Malformed (Clock n) (λ e. tt) (λ e. h)
+clock-fits NoNumber h = tt
 
 version-fits : (o : One) → FitLine (asVersion o)
 version-fits (Number v) = tt
@@ -93,6 +93,6 @@ line-fits text =
     cond-by FitLine (eqb k 77) _ _ (λ e. ram-fits (twoAt text 2) (two-fits text 2)) (λ e.
     cond-by FitLine (eqb k 82) _ _ (λ e. read-fits (oneAt text 2 4294967295)) (λ e.
     cond-by FitLine (eqb k 80) _ _ (λ e. peek-fits (oneAt text 2 4294967295)) (λ e.
-    cond-by FitLine (eqb k 67) _ _ (λ e. clock-fits (oneAt text 2 1000)) (λ e.
+    cond-by FitLine (eqb k 67) _ _ (λ e. clock-fits (oneAt text 2 1000) (one-fits text 2 1000)) (λ e.
     cond-by FitLine (eqb k 86) _ _ (λ e. version-fits (oneAt text 2 4)) (λ e. tt)))))))
     (λ e. tt)

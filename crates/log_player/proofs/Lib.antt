@@ -1,9 +1,10 @@
-pub mod Applies
 pub mod Stops
 pub mod Whole
 pub mod Rooms
 pub mod Spots
 pub mod Running
-pub mod Bursting
+pub mod Batching
+pub mod Hearing
+pub mod Lines
 pub mod Parted
 pub mod Overs

@@ -38,7 +38,7 @@ use Rattle.log_player.specs.Applied.{leftSide, rightSide, clockedText, c
 plain : (z : ℤ) → pos 0 +ℤ z ≡ z
 plain z = z-eq (pos 0 +ℤ z) z (omega (arith, z-add (pos 0) z))
 
-wraps-not : (z : ℤ) → Frame z → wrappingAdd (pos 0) z ≡ z
+pub wraps-not : (z : ℤ) → Frame z → wrappingAdd (pos 0) z ≡ z
 unfolding wrappingAdd
 wraps-not z f = ap wrapped (plain z) ∙ wrapped-is z z (fit w32 z (omega (arith, f .high)) (omega (arith, f .low))) refl
 
@@ -50,7 +50,7 @@ clamped-sum z f =
     let w = clamp-width z 32767 in
     ap clamp16 (wraps-not z f) ∙ sym (ap clamp16 (plain (clamp16 z)) ∙ within (clamp16 z) (w .0) (w .1))
 
-nothing : Frame (pos 0)
+pub nothing : Frame (pos 0)
 nothing = record { high = omega arith; low = omega arith }
 
 -- ---- one place of two sides set
@@ -71,11 +71,11 @@ abbrev Over : ℤ → ℤ → Type 0
 Over wide given = (clamp16 wide ≡ given) × Frame wide
 
 -- a side, and where its stems begin: the right one's, or the left one's
-abbrev sideOf : Bool → Mix → List ℤ
+abbrev pub sideOf : Bool → Mix → List ℤ
 sideOf true m = m .right
 sideOf false m = m .left
 
-abbrev handOf : Bool → ℕ
+abbrev pub handOf : Bool → ℕ
 handOf true = 1
 handOf false = 0
 

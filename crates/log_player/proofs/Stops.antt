@@ -5,20 +5,17 @@ use mathlib.Core.List.{List, [], _∷_}
 use Prim.Native.Nat.{ℕ, _+_, _-_, _≤_, _<_}
 use native.Mathlib.Numerals.{add-one}
 use native.Mathlib.Omega.{arith}
-use lib.Dec.{eqb, ltb}
-use lib.IntN.{ℤ}
+use lib.Dec.{eqb}
 use lib.ListN.{length, take, drop, getD, length-drop, drop-of-length-le}
 use lib.Seq.{drop-cons}
-use borrow.Author.Tests.{eq-eqb, ne-eqb, le-leb, lt-leb, lt-ltb}
-use Rattle.decimal.specs.Written.{Put}
+use borrow.Author.Tests.{eq-eqb, ne-eqb, le-leb, lt-leb}
+use Rattle.num.proofs.Choice.{never}
 use Rattle.log.specs.declared.Line.{Line}
 use Rattle.log.specs.declared.Line.the-variants.{Malformed}
 use Rattle.log.specs.Lines.{parsedLine, badNumber, isBad}
-use Rattle.log_player.specs.declared.Player.{Player}
-use Rattle.log_player.specs.declared.Next.{Next}
 use Rattle.log_player.specs.declared.Next.the-variants.{Line as Played, Rest, Bad}
-use Rattle.log_player.specs.Worlds.{World}
-use Rattle.log_player.specs.Steps.{firstLine, nextOf, stepAfter, stepText}
+use Rattle.log_player.specs.Steps.{firstLine, nextOf}
+use Rattle.log_player.specs.Runs.{isLine}
 
 -- ---- the first line, one byte at a time
 pub ends-at : (l : List ℕ) (i : ℕ) → i < length l → getD l i 0 ≡ 10 → length (firstLine (drop i l)) ≡ 0
@@ -57,16 +54,6 @@ pub next-past : (l : List ℕ) (from : ℕ) → length l ≤ from → nextOf (dr
 unfolding nextOf firstLine
 next-past l from h = rw (drop-of-length-le l h)
 
--- whether a line is bad, by its number
-bad-by : (why : ℕ) (line : Line) → why ≡ badNumber line → (why ≡ 0 → ⊥) → isBad line ≡ true
-bad-by why line e n = lt-ltb 0 (badNumber line) (above (badNumber line) (λ z. n (e ∙ z)))
-  where
-    above : (m : ℕ) → (m ≡ 0 → ⊥) → 0 < m
-    above m k = omega arith
-
-pub good-by : (why : ℕ) (line : Line) → why ≡ badNumber line → why ≡ 0 → isBad line ≡ false
-good-by why line e z = ap (ltb 0) (sym e ∙ z)
-
 module _ (l : List ℕ) (from stop : ℕ) (s : stop ≡ from + length (firstLine (drop from l))) where
   long : from < length l → length (drop from l) ≡ length l - from
   long h = length-drop from l
@@ -82,13 +69,17 @@ module _ (l : List ℕ) (from stop : ℕ) (s : stop ≡ from + length (firstLine
   within : from < length l → (stop ≡ length l → ⊥) → (length (firstLine (drop from l)) ≡ length (drop from l) → ⊥)
   within h n e = n (omega (arith, length-drop from l))
 
-  pub next-bad : (line : Line) (why : ℕ) → from < length l → (stop ≡ length l → ⊥) → line ≡ parsedLine (firstLine (drop from l)) → why ≡ badNumber line → (why ≡ 0 → ⊥) → nextOf (drop from l) from ≡ Bad why
-  unfolding nextOf
-  next-bad line why h n e m z = rw (ne-eqb (length (firstLine (drop from l))) (length (drop from l)) (within h n), ← e, bad-by why line m z, ← m)
-
   pub next-line : (line : Line) → from < length l → (stop ≡ length l → ⊥) → line ≡ parsedLine (firstLine (drop from l)) → isBad line ≡ false → nextOf (drop from l) from ≡ Played (stop + 1)
   unfolding nextOf
   next-line line h n e m = rw (ne-eqb (length (firstLine (drop from l))) (length (drop from l)) (within h n), ← e, m, ← s)
+
+  pub next-told : (line : Line) (why : ℕ) → from < length l → (stop ≡ length l → ⊥) → line ≡ parsedLine (firstLine (drop from l)) → why ≡ badNumber line → isLine (nextOf (drop from l) from) ≡ false → nextOf (drop from l) from ≡ Bad why
+  unfolding nextOf
+  next-told line why h n e m none = go (isBad line) refl
+    where
+      go : (b : Bool) → isBad line ≡ b → nextOf (drop from l) from ≡ Bad why
+      go true t = rw (ne-eqb (length (firstLine (drop from l))) (length (drop from l)) (within h n), ← e, t, ← m)
+      go false t = never (rw (ne-eqb (length (firstLine (drop from l))) (length (drop from l)) (within h n), ← e, t) at none)
 
   -- the bytes from the one place to the other
   pub line-part : take (stop - from) (drop from l) ≡ firstLine (drop from l)
@@ -98,11 +89,3 @@ module _ (l : List ℕ) (from stop : ℕ) (s : stop ≡ from + length (firstLine
 
   pub stop-in : from < length l → stop ≤ length l
   stop-in h = omega (arith, length-drop from l, first-short (drop from l))
-
--- ---- what `step` promises, where the next thing is known
-abbrev pub Steps : World → ℕ → Next → List ℕ → Next → Player → List ℕ → List ℤ → List ℕ → List ℕ → ℕ → ℕ → Type 0
-Steps w number n line next p ram queues out now at end =
-    (next ≡ n) × ((p ≡ stepAfter w n line .player) × ((ram ≡ stepAfter w n line .ram) × ((queues ≡ stepAfter w n line .queues) × (Put out now at (stepText w number n line) end × (length (stepText w number n line) ≤ 16000)))))
-
-pub step-is : (w : World) (number : ℕ) (n m : Next) (line : List ℕ) (next : Next) (p : Player) (ram : List ℕ) (queues : List ℤ) (out now : List ℕ) (at end : ℕ) → n ≡ m → Steps w number m line next p ram queues out now at end → Steps w number n line next p ram queues out now at end
-step-is w number n m line next p ram queues out now at end e h = rw e h

@@ -4,4 +4,4 @@ pub mod Logs
 pub mod Steps
 pub mod Runs
 pub mod Parts
-pub mod Bursts
+pub mod Batches

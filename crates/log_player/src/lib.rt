@@ -1,5 +1,5 @@
 // A log played: each line on a chip, and the text that it prints.
-mod bursts;
+mod batches;
 mod playing;
 mod runs;
 mod steps;
@@ -21,26 +21,13 @@ pub struct Made {
     pub answer: Answer,
 }
 
-// A player after a line, and the place behind what the line has printed.
-pub struct Played {
-    pub player: Player,
-    pub end: usize,
-}
-
-// What an input holds at a place: a line, which was played, and the place of the next one; no whole line; a bad line, and the number of
+// What an input holds at a place: a line, and the place of the next one; no whole line; a bad line, and the number of
 // why it is one. Or the number with which the chip refuses calls over the RAM and the queue buffer that are lent to it.
 pub enum Next {
     Line(usize),
     Rest,
     Bad(u64),
     Refused(u64),
-}
-
-// A player after a step, and the place behind what the step has printed.
-pub struct Stepped {
-    pub player: Player,
-    pub next: Next,
-    pub end: usize,
 }
 
 // A player after some lines of an input: what it holds behind them, where, the number of the line there, and the place behind
@@ -53,21 +40,33 @@ pub struct Ran {
     pub end: usize,
 }
 
-// What a line writes: a value to an address.
-pub(crate) enum Assigned {
-    To(u32, u8),
-    Nothing,
+// A line as the call of a list that it makes.
+pub(crate) struct ListedCall {
+    pub kind: u8,
+    pub address: u32,
+    pub value: u8,
 }
 
-// So many lines, and the place behind them.
-pub(crate) struct Collected {
+// So many lines, the frames that they clock, and the place behind them.
+pub(crate) struct Gathered {
     pub count: usize,
+    pub frames: usize,
     pub from: usize,
 }
 
-// A player after some lines, the place behind them, and the number of the line there.
-pub(crate) struct Burst {
+// A player after some lines, and the place behind what they have printed.
+pub(crate) struct Played {
+    pub player: Player,
+    pub end: usize,
+}
+
+// The same, the place behind the lines, and the number of the line there.
+pub(crate) struct Batch {
     pub player: Player,
     pub from: usize,
     pub number: u64,
+    pub end: usize,
 }
+
+// Room for the text of any line: it has at most 16,000 bytes, of 1,000 frames.
+pub(crate) const ROOM: usize = 16384;

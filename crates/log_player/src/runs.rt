@@ -3,20 +3,14 @@ ghost use mathlib.Core.Path.{_≡_};
 ghost use mathlib.Core.Bool.{true};
 ghost use mathlib.Core.List.{[]};
 ghost use Prim.Native.Nat.{_+_, _≤_, _<_, _^_};
-ghost use lib.ListN.{length, getD};
+ghost use lib.ListN.{length};
 ghost use lib.Seq.{sets};
-ghost use Rattle.s3w2.specs.Answers.{numberOf};
-ghost use Rattle.s3w2.specs.Refusals.{soundRefusal};
 ghost use Rattle.log_player.specs.Worlds.{world};
-ghost use Rattle.log_player.specs.Runs.{hasRoom, spot, runFrom, logRun, ranTo, ranAs};
+ghost use Rattle.log_player.specs.Runs.{hasRoom, spot, runFrom, refusedBy, logRun, ranTo};
 use crate::Next;
 use crate::Player;
+use crate::ROOM;
 use crate::Ran;
-use crate::bursts::begins_write;
-use sizes::QUEUE_BUFFER;
-
-// Room for the text of any line: it has at most 16,000 bytes, of 1,000 frames.
-const ROOM: usize = 16384;
 
 // Whether there is room behind `end` for a line's text, and a number for the line behind it.
 fn has_room(length: usize, end: usize, number: u64) -> bool
@@ -30,23 +24,6 @@ fn has_room(length: usize, end: usize, number: u64) -> bool
         return false;
     }
     ROOM <= length - end
-}
-
-// The number with which a call that is lent a RAM and a queue buffer of these lengths is refused; 0 where it is not.
-fn refused_by(player: Player, ram: usize, queues: usize) -> u64
-    ensures { λ r. ⌜ r ≡ getD (numberOf (soundRefusal (player .chip) ram queues)) 0 0 ⌝ }
-{
-    if !tone::is_ram_length(ram) {
-        return 1;
-    }
-    if queues != QUEUE_BUFFER {
-        return 2;
-    }
-    let chip = player.chip;
-    if !chip.accepts(ram) {
-        return 3;
-    }
-    0
 }
 
 impl Player {
@@ -77,9 +54,11 @@ impl Player {
         ensures bound { λ _. ⌜ length (logRun (length (now (out .entry))) (now (input .entry))
             (spot (world self (now (ram .entry)) (now (queues .entry))) number from []) .text) ≤ length (now (out .entry)) ⌝ }
     {
-        let why = refused_by(self, ram.len(), queues.len());
+        let chip = self.chip;
+        let refusal = chip.refusal_of_sound(ram.len(), queues.len());
+        let why = refusal.number();
         if why != 0 {
-            return self.ran(Next::Refused(why), from, number, 0);
+            return self.ran(Next::Refused(why as u64), from, number, 0);
         }
         self.run_lines(input, from, number, ram, queues, out)
     }
@@ -94,6 +73,7 @@ impl Player {
         queues: &mut [i16],
         out: &mut [u8],
     ) -> Ran
+        requires { ⌜ refusedBy (world self (now ram) (now queues)) ≡ 0 ⌝ }
         ensures result { λ r. ⌜ r ≡ ranTo
             (runFrom (length (now (out .entry))) (now (input .entry)) (spot (world self (now (ram .entry)) (now (queues .entry))) number from [])) ⌝ }
         ensures ram { λ _. ⌜ now (ram .exit)
@@ -114,35 +94,16 @@ impl Player {
         let mut line = number;
         let mut end = 0;
         while has_room(out.len(), end, line) {
-            let first = num::byte_at(input, place);
-            if begins_write(first) {
-                let burst = player.burst(first == 77, input, place, line, &mut *ram, &mut *queues);
-                player = burst.player;
-                place = burst.from;
-                line = burst.number;
+            let batch = player.batch(input, place, line, &mut *ram, &mut *queues, &mut *out, end);
+            let first = line;
+            player = batch.player;
+            place = batch.from;
+            line = batch.number;
+            end = batch.end;
+            if line == first {
+                return player.stop(input, place, line, out, end);
             }
-            let stepped = player.step(input, place, line, &mut *ram, &mut *queues, &mut *out, end);
-            player = stepped.player;
-            end = stepped.end;
-            let next = stepped.next;
-            let Next::Line(behind) = next else {
-                return player.ran(next, place, line, end);
-            };
-            place = behind;
-            line += 1;
         }
         player.ran(Next::Line(place), place, line, end)
-    }
-
-    fn ran(self, next: Next, from: usize, number: u64, end: usize) -> Ran
-        ensures { λ r. ⌜ r ≡ ranAs self next from number end ⌝ }
-    {
-        Ran {
-            player: self,
-            next,
-            from,
-            number,
-            end,
-        }
     }
 }

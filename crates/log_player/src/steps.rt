@@ -1,14 +1,16 @@
-// The next line of an input, and the end of one.
+// Where a line of an input ends, what no line is, and the end of an input.
 ghost use mathlib.Core.Path.{_≡_};
 ghost use Prim.Native.Nat.{_+_, _≤_};
 ghost use lib.ListN.{length, drop};
 ghost use Rattle.decimal.specs.Written.{Put};
-ghost use Rattle.log_player.specs.Worlds.{world};
+ghost use Rattle.log_player.specs.declared.Next.the-variants.{Bad};
 ghost use Rattle.log_player.specs.Logs.{endText};
-ghost use Rattle.log_player.specs.Steps.{firstLine, nextOf, stepAfter, stepText};
+ghost use Rattle.log_player.specs.Steps.{firstLine, nextOf};
+ghost use Rattle.log_player.specs.Runs.{ranAs};
+ghost use Rattle.log_player.specs.Batches.{NoLine, Stops};
 use crate::Next;
 use crate::Player;
-use crate::Stepped;
+use crate::Ran;
 
 // The place of the first byte 10 from `from` on; the input's end where there is none, and `from` where that is past it.
 pub fn line_end(input: &[u8], from: usize) -> usize
@@ -25,67 +27,51 @@ pub fn line_end(input: &[u8], from: usize) -> usize
 }
 
 impl Player {
-    fn stepped(self, next: Next, end: usize) -> Stepped
-        ensures player { λ r. ⌜ r .player ≡ self ⌝ }
-        ensures next { λ r. ⌜ r .next ≡ next ⌝ }
-        ensures end { λ r. ⌜ r .end ≡ end ⌝ }
+    pub(crate) fn ran(self, next: Next, from: usize, number: u64, end: usize) -> Ran
+        ensures { λ r. ⌜ r ≡ ranAs self next from number end ⌝ }
     {
-        Stepped {
+        Ran {
             player: self,
             next,
+            from,
+            number,
             end,
         }
     }
 
-    // Plays the line that begins at `from`, the input's line `number`, unless it is bad. No well-formed line has more than 16
-    // bytes, so a rest that is longer and has no byte 10 is malformed.
-    pub fn step(
+    // Tells of a bad line.
+    fn tell(self, why: u8, from: usize, number: u64, out: &mut [u8], at: usize) -> Ran
+        ensures { λ r. ⌜ Stops (Bad why) self from number (now (out .entry)) (now (out .exit)) at r ⌝ }
+    {
+        let end = log::put_bad(out, at, number, why);
+        self.ran(Next::Bad(why as u64), from, number, end)
+    }
+
+    // Ends a run at `from`, where no line is that can be played. No well-formed line has more than 16 bytes, so a rest that is
+    // longer and has no byte 10 is malformed.
+    pub(crate) fn stop(
         self,
         input: &[u8],
         from: usize,
         number: u64,
-        ram: &mut [u8],
-        queues: &mut [i16],
         out: &mut [u8],
         at: usize,
-    ) -> Stepped
-        ensures next { λ r. ⌜ r .next ≡ nextOf (drop from (now (input .entry))) from ⌝ }
-        ensures player { λ r. ⌜ r .player
-            ≡ stepAfter (world self (now (ram .entry)) (now (queues .entry))) (nextOf (drop from (now (input .entry))) from)
-            (firstLine (drop from (now (input .entry)))) .player ⌝ }
-        ensures ram { λ _. ⌜ now (ram .exit)
-            ≡ stepAfter (world self (now (ram .entry)) (now (queues .entry))) (nextOf (drop from (now (input .entry))) from)
-            (firstLine (drop from (now (input .entry)))) .ram ⌝ }
-        ensures queues { λ _. ⌜ now (queues .exit)
-            ≡ stepAfter (world self (now (ram .entry)) (now (queues .entry))) (nextOf (drop from (now (input .entry))) from)
-            (firstLine (drop from (now (input .entry)))) .queues ⌝ }
-        ensures put { λ r. ⌜ Put (now (out .entry)) (now (out .exit)) at
-            (stepText (world self (now (ram .entry)) (now (queues .entry))) number (nextOf (drop from (now (input .entry))) from)
-            (firstLine (drop from (now (input .entry))))) (r .end) ⌝ }
-        ensures bound { λ _. ⌜ length (stepText (world self (now (ram .entry)) (now (queues .entry))) number
-            (nextOf (drop from (now (input .entry))) from) (firstLine (drop from (now (input .entry))))) ≤ 16000 ⌝ }
+    ) -> Ran
+        requires { ⌜ at ≤ length (now out) ⌝ ∗ ⌜ NoLine (now input) from ⌝ }
+        ensures { λ r. ⌜ Stops (nextOf (drop from (now (input .entry))) from) self from number (now (out .entry)) (now (out .exit)) at r ⌝ }
     {
-        let same = num::least(at, out.len());
         if input.len() <= from {
-            return self.stepped(Next::Rest, same);
+            return self.ran(Next::Rest, from, number, at);
         }
         let stop = line_end(input, from);
         if stop == input.len() {
             if stop - from <= 16 {
-                return self.stepped(Next::Rest, same);
+                return self.ran(Next::Rest, from, number, at);
             }
-            let end = log::put_bad(out, at, number, log::MALFORMED);
-            return self.stepped(Next::Bad(log::MALFORMED as u64), end);
+            return self.tell(log::MALFORMED, from, number, out, at);
         }
         let line = log::parse(&input[from..stop]);
-        let why = line.number();
-        if why != 0 {
-            let end = log::put_bad(out, at, number, why);
-            return self.stepped(Next::Bad(why as u64), end);
-        }
-        let played = self.apply(line, ram, queues, out, at);
-        let player = played.player;
-        player.stepped(Next::Line(stop + 1), played.end)
+        self.tell(line.number(), from, number, out, at)
     }
 
     // Puts the last line of the text, where the input ends and `rest` bytes follow its last byte 10.

@@ -4,7 +4,6 @@ pub mod Sounds
 pub mod Chunks
 pub mod Mixes
 pub mod Kept
-pub mod Listed
 pub mod Longer
 pub mod Plays
 pub mod Bounds

@@ -5,7 +5,6 @@ pub mod Fresh
 pub mod Ram
 pub mod Channels
 pub mod Registers
-pub mod Lists
 pub mod Plays
 pub mod Sound
 pub mod Mixing

@@ -1,7 +1,7 @@
 -- The RAM: a byte written, a byte read. An address past its end is none.
 use mathlib.Core.Bool.{cond}
 use mathlib.Core.List.{List}
-use Prim.Native.Nat.{ℕ, zero, suc}
+use Prim.Native.Nat.{ℕ}
 use lib.Dec.{ltb}
 use lib.ListN.{length, set, getD}
 use Rattle.voices.specs.Writes.{afterRamWrite}
@@ -23,8 +23,3 @@ writePcmRamRam chip ram address value = unless (ramRefusal chip (length ram)) ra
 
 unfoldable pub readPcmRamAnswer : Chip → List ℕ → ℕ → Answer
 readPcmRamAnswer chip ram address = told (ramRefusal chip (length ram)) (Byte (getD ram address 0))
-
--- the first n bytes of a list stored, whatever the chip
-unfoldable pub bytesStored : ℕ → List ℕ → List ℕ → List ℕ → List ℕ
-bytesStored zero addresses values ram = ram
-bytesStored (suc n) addresses values ram = set (bytesStored n addresses values ram) (getD addresses n 0) (getD values n 0)

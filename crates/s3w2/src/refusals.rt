@@ -101,8 +101,8 @@ impl Chip {
         self.refusal()
     }
 
-    // A call that is lent both.
-    pub(crate) fn refusal_of_sound(self, length: usize, queues: usize) -> Answer
+    // The refusal of a call that is lent both.
+    pub fn refusal_of_sound(self, length: usize, queues: usize) -> Answer
         ensures { λ r. ⌜ r ≡ soundRefusal self length queues ⌝ }
     {
         if !tone::is_ram_length(length) {

@@ -17,12 +17,11 @@ use Rattle.voice.proofs.Tests.{first-arm, second-arm}
 use Rattle.voices.specs.Addresses.{channelOf, offsetOf, isControl}
 use Rattle.voices.specs.Core.{channelAt, setWavetables, storedChannel}
 use Rattle.voices.specs.Writes.{writeChannelControl, writeChannelControlQueues, writeChannelPcmReg, writeWavetable, writeBlock, writeBlockQueues, writeRegister, writeRegisterQueues, afterRamWriteAt, afterRamWriteTo}
-use Rattle.voices.specs.Lists.{blockChannel, blockEntries, blockEmpties, FedCore, fedCore, registersWritten, afterRamWrites}
+use Rattle.voices.specs.Lists.{blockChannel, blockEntries, blockEmpties, afterRamWrites}
 use Rattle.voices.specs.declared.Core.{Core}
 use Rattle.voices.proofs.Chosen.{write-in, write-pcm-in, register-low, register-block, register-above, register-queues-low, register-queues-block, register-queues-above}
 use Rattle.voices.proofs.Storing.{voice-queues}
 use Rattle.voices.proofs.Loops.{ram-more}
-use Rattle.voices.proofs.Voices.{length-register-queues}
 
 -- ---- a block's offset
 module _ (offset : ℕ) where
@@ -105,35 +104,6 @@ module _ (version : SguVersion) (k : Core) (q : List ℤ) (address value : ℕ) 
 
   pub wrote-above : wavetablesSize ≤ address → registersEnd ≤ address → r ≡ k → l ≡ q → Wrote version k q address value r l
   wrote-above g h e f = record { core = e ∙ register-above version k address value g h; queues = f ∙ register-queues-above version k address value q g h }
-
--- ---- register after register
-module _ (version : SguVersion) (addresses values : List ℕ) (k : Core) (q : List ℤ) where
-  abbrev pub done : ℕ → FedCore
-  done i = registersWritten version i addresses values (fedCore k q)
-
-  done-more : (i : ℕ) → _≡_ {A = FedCore} (record { core = writeRegister version (done i .core) (getD addresses i 0) (getD values i 0); queues = writeRegisterQueues version (done i .core) (done i .queues) (getD addresses i 0) (getD values i 0) }) (done (i + 1))
-  unfolding registersWritten
-  done-more i = ap (λ (m : ℕ). registersWritten version m addresses values (fedCore k q)) (sym (add-one i))
-
-  -- before register i
-  pub record Writing (i : ℕ) (r : Core) (l : List ℤ) : Type 0 where
-    pub after : r ≡ done i .core
-    pub entries : l ≡ done i .queues
-    pub long : length l ≡ queueBuffer
-
-  pub none : length q ≡ queueBuffer → Writing 0 k q
-  unfolding registersWritten
-  none n = record { after = refl; entries = refl; long = n }
-
-  pub more : (i : ℕ) (r x : Core) (l m : List ℤ) → Writing i r l → Wrote version r l (getD addresses i 0) (getD values i 0) x m → Writing (i + 1) x m
-  more i r x l m g w = record {
-    after = w .core ∙ ap (λ (y : Core). writeRegister version y (getD addresses i 0) (getD values i 0)) (g .after) ∙ ap (λ (s : FedCore). s .core) (done-more i);
-    entries = w .queues ∙ ap₂ (λ (y : Core) (z : List ℤ). writeRegisterQueues version y z (getD addresses i 0) (getD values i 0)) (g .after) (g .entries) ∙ ap (λ (s : FedCore). s .queues) (done-more i);
-    long = ap length (w .queues) ∙ length-register-queues version r l (getD addresses i 0) (getD values i 0) ∙ g .long;
-  }
-
-  pub all : (i n : ℕ) (r : Core) (l : List ℤ) → Writing i r l → i ≡ n → (r ≡ done n .core) × (l ≡ done n .queues)
-  all i n r l g e = (g .after ∙ ap (λ (j : ℕ). done j .core) e, g .entries ∙ ap (λ (j : ℕ). done j .queues) e)
 
 -- ---- byte after byte
 module _ (ram : ℕ) (addresses : List ℕ) (k : Core) where

@@ -1,4 +1,4 @@
--- Writes of a list, one after the other.
+-- Writes: a register of a block, and bytes of the RAM one after the other.
 use mathlib.Core.Bool.{Bool, cond}
 use mathlib.Core.List.{List}
 use Prim.Native.Nat.{ℕ, zero, suc, _-_}
@@ -9,7 +9,7 @@ use Rattle.version.specs.declared.SguVersion.{SguVersion}
 use Rattle.voice.specs.Writes.{emptiesCache, writeControl, writeControlEntries, writePcmReg}
 use Rattle.voice.specs.declared.Channel.{Channel}
 use Rattle.voices.specs.Addresses.{isControl}
-use Rattle.voices.specs.Writes.{writeRegister, writeRegisterQueues, afterRamWrite}
+use Rattle.voices.specs.Writes.{afterRamWrite}
 use Rattle.voices.specs.declared.Core.{Core}
 
 -- ---- a write at a block's offset: its channel, its own entries of the queue buffer, whether the cache is emptied
@@ -22,23 +22,6 @@ blockEntries version c q offset value = cond (isControl offset) (writeControlEnt
 
 unfoldable pub blockEmpties : ℕ → Bool
 blockEmpties offset = cond (isControl offset) (emptiesCache offset) (leb (offset - 16) 9)
-
--- ---- eight voices and the queue buffer that is lent to them
-pub record FedCore : Type 0 where
-  pub core : Core
-  pub queues : List ℤ
-
-abbrev pub fedCore : Core → List ℤ → FedCore
-fedCore k q = record { core = k; queues = q }
-
--- the first n registers of a list of addresses and values
-unfoldable pub registersWritten : SguVersion → ℕ → List ℕ → List ℕ → FedCore → FedCore
-registersWritten version zero addresses values s = s
-registersWritten version (suc n) addresses values s =
-    let b = registersWritten version n addresses values s in
-    let address = getD addresses n 0 in
-    let value = getD values n 0 in
-    record { core = writeRegister version (b .core) address value; queues = writeRegisterQueues version (b .core) (b .queues) address value }
 
 -- the first n bytes of a list that are written to a RAM of some length: an address past its end is none
 unfoldable pub afterRamWrites : ℕ → ℕ → List ℕ → Core → Core

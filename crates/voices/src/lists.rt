@@ -1,16 +1,9 @@
-// Writes of a list, one after the other, with the eight voices in one place.
+// Writes: a register of a block, and bytes of the RAM one after the other.
 ghost use mathlib.Core.Path.{_≡_};
-ghost use Prim.Native.Nat.{min};
 ghost use lib.ListN.{length};
-ghost use Rattle.sizes.specs.Sizes.{queueBuffer};
-ghost use Rattle.voices.specs.Writes.{withQueues};
-ghost use Rattle.voices.specs.Lists.{blockChannel, blockEntries, blockEmpties, fedCore, registersWritten, afterRamWrites};
+ghost use Rattle.voices.specs.Lists.{blockChannel, blockEntries, blockEmpties, afterRamWrites};
 use crate::Core;
-use crate::addresses::channel_of;
-use crate::addresses::offset_of;
 use crate::stored::clear_fragments;
-use sizes::FIFO_CAPACITY;
-use sizes::QUEUE_BUFFER;
 use version::SguVersion;
 use voice::Channel;
 
@@ -47,64 +40,6 @@ pub fn empties(offset: u8) -> bool
 }
 
 impl Core {
-    fn write_each(
-        self,
-        version: SguVersion,
-        queues: &mut [i16],
-        addresses: &[u32],
-        values: &[u8],
-    ) -> Core
-        requires { ⌜ length (now queues) ≡ queueBuffer ⌝ }
-        ensures result { λ r. ⌜ r ≡ registersWritten version (min (length (now (addresses .entry))) (length (now (values .entry))))
-            (now (addresses .entry)) (now (values .entry)) (fedCore self (now (queues .entry))) .core ⌝ }
-        ensures queues { λ _. ⌜ now (queues .exit)
-            ≡ registersWritten version (min (length (now (addresses .entry))) (length (now (values .entry)))) (now (addresses .entry))
-            (now (values .entry)) (fedCore self (now (queues .entry))) .queues ⌝ }
-    {
-        let mut core = self;
-        for i in 0..num::least(addresses.len(), values.len()) {
-            let address = addresses[i];
-            let value = values[i];
-            if address < 0x800 {
-                core.wavetables[address as usize] = value;
-            } else if address < 0x900 {
-                let ch = channel_of(address);
-                let offset = offset_of(address);
-                let from = ch * FIFO_CAPACITY;
-                let to = from + FIFO_CAPACITY;
-                let c = core.channels[ch];
-                let d = write_at(c, version, &mut queues[from..to], offset, value);
-                core.channels[ch] = d;
-                if empties(offset) {
-                    clear_fragments(&mut core.fragments, ch);
-                }
-            }
-        }
-        core
-    }
-
-    // As many registers as there are addresses and values.
-    pub fn write_registers(
-        self,
-        version: SguVersion,
-        queues: &mut [i16],
-        addresses: &[u32],
-        values: &[u8],
-    ) -> Core
-        ensures result { λ r. ⌜ r ≡ withQueues (now (queues .entry))
-            (registersWritten version (min (length (now (addresses .entry))) (length (now (values .entry)))) (now (addresses .entry))
-            (now (values .entry)) (fedCore self (now (queues .entry))) .core) self ⌝ }
-        ensures queues { λ _. ⌜ now (queues .exit)
-            ≡ withQueues (now (queues .entry))
-            (registersWritten version (min (length (now (addresses .entry))) (length (now (values .entry)))) (now (addresses .entry))
-            (now (values .entry)) (fedCore self (now (queues .entry))) .queues) (now (queues .entry)) ⌝ }
-    {
-        if queues.len() != QUEUE_BUFFER {
-            return self;
-        }
-        self.write_each(version, queues, addresses, values)
-    }
-
     // The caches of the voices whose streams have one of the bytes are emptied; `ram` is the RAM's length.
     pub fn after_ram_writes(self, ram: usize, addresses: &[u32]) -> Core
         ensures { λ r. ⌜ r ≡ afterRamWrites ram (length (now (addresses .entry))) (now (addresses .entry)) self ⌝ }

@@ -148,7 +148,7 @@ returns c =
           ap (λ (s : Listed). s .ram) o,
           (
             ap (λ (s : Listed). s .queues) o,
-            (ap (λ (s : Listed). s .values) o, (g .filled ∙ ap (λ (s : Listed). sets (a .stems .now) 0 (s .stems)) o, all-before (a .kinds .now) (a .addresses .now) (a .count) (lentList (a .core) (a .version) (a .ram .now) (a .queues .now) (a .values .now)) (a .stems .now) refl (l .core) (l .version) (l .ram) (l .queues) (l .values) (l .stems) (l .i) (l .at) g (c .loop-test .left))),
+            (ap (λ (s : Listed). s .values) o, (g .filled ∙ ap (λ (s : Listed). sets (a .stems .now) 0 (s .stems)) o, (all-before (a .kinds .now) (a .addresses .now) (a .count) (lentList (a .core) (a .version) (a .ram .now) (a .queues .now) (a .values .now)) (a .stems .now) refl (l .core) (l .version) (l .ram) (l .queues) (l .values) (l .stems) (l .i) (l .at) g (c .loop-test .left), core-accepted (l .core) (l .version) (length (a .ram .now)) (g .accepted)))),
           ),
         ),
       ),

@@ -1,26 +1,37 @@
 use borrow.Author.Needs.{needs}
-use mathlib.Core.Path.{ap, subst, _∙_}
+use mathlib.Core.Path.{sym, ap, subst, _∙_}
 use Prim.Native.Nat.{_≤_}
-use lib.ListN.{length}
+use lib.ListN.{length, getD}
 use lib.Seq.{sets}
+use Rattle.s3w2.specs.declared.Answer.{Answer}
+use Rattle.s3w2.specs.Answers.{numberOf}
 use Rattle.log_player.specs.Runs.{Run, ranTo}
 use Rattle.log_player.proofs.Running.{refused, run-refused, run-accepted}
 use Rattle.log_player.proofs.Player.run.Statement.{statement}
 use Rattle.log_player.proofs.Player.run.Tie as tie
 
-refused-by-requires : tie.Need-refused-by-requires
-refused-by-requires c κs = search needs
+refusal-of-sound-requires : tie.Need-refusal-of-sound-requires
+refusal-of-sound-requires c κs = search needs
+
+number-requires : tie.Need-number-requires
+number-requires c κs = search needs
+
+cast-t14 : tie.Need-cast-t14
+cast-t14 c = search needs
 
 ran-requires : tie.Need-ran-requires
 ran-requires c κs = search needs
 
 returns : tie.Need-returns
 returns c =
-    let a = c .before .before .before .before .before .before .args in
-    run-refused (a .out .now) (a .input .now) (a .self) (a .ram .now) (a .queues .now) (a .number) (a .from) _ (refused (a .self) (a .ram .now) (a .queues .now) _ (c .before .before .refused-by .ensures)) _ (c .before .if1 .taken) (c .ran .ensures)
+    let a = c .before .before .before .before .before .before .before .before .args in
+    let e = refused (a .self) (a .ram .now) (a .queues .now) _ (c .before .before .number .ensures ∙ ap (λ (r : Answer). getD (numberOf r) 0 0) (c .before .before .before .refusal-of-sound .ensures)) in
+    run-refused (a .out .now) (a .input .now) (a .self) (a .ram .now) (a .queues .now) (a .number) (a .from) _ e _ (c .before .if1 .taken) (c .ran .ensures)
 
 run-lines-requires : tie.Need-run-lines-requires
-run-lines-requires c κs = search needs
+run-lines-requires c κs =
+    let a = c .before .before .before .before .before .before .before .before .before .before .args in
+    sym (refused (a .self) (a .ram .now) (a .queues .now) _ (c .before .before .before .before .number .ensures ∙ ap (λ (r : Answer). getD (numberOf r) 0 0) (c .before .before .before .before .before .refusal-of-sound .ensures))) ∙ c .before .before .before .if1 .left
 
 same-length : tie.Need-same-length
 same-length c = search needs
@@ -33,8 +44,9 @@ same-length-3 c = search needs
 
 returns-2 : tie.Need-returns-2
 returns-2 c =
-    let a = c .before .before .before .before .before .before .before .before .before .before .before .before .before .before .args in
-    let e = run-accepted (a .out .now) (a .input .now) (a .self) (a .ram .now) (a .queues .now) (a .number) (a .from) _ (refused (a .self) (a .ram .now) (a .queues .now) _ (c .before .before .before .before .before .before .before .before .before .before .refused-by .ensures)) (c .before .before .before .before .before .before .before .before .before .if1 .left) in
+    let a = c .before .before .before .before .before .before .before .before .before .before .before .before .before .before .before .before .args in
+    let r = refused (a .self) (a .ram .now) (a .queues .now) _ (c .before .before .before .before .before .before .before .before .before .before .number .ensures ∙ ap (λ (r : Answer). getD (numberOf r) 0 0) (c .before .before .before .before .before .before .before .before .before .before .before .refusal-of-sound .ensures)) in
+    let e = run-accepted (a .out .now) (a .input .now) (a .self) (a .ram .now) (a .queues .now) (a .number) (a .from) _ r (c .before .before .before .before .before .before .before .before .before .if1 .left) in
     let k = c .before .before .before .before .before .run-lines .ensures in (
       k .0 ∙ ap ranTo e,
       (
@@ -47,7 +59,9 @@ pub run-spec : {M : Type 1} → statement M
 run-spec =
     tie.close
     (tie.spec
-    refused-by-requires
+    refusal-of-sound-requires
+    number-requires
+    cast-t14
     ran-requires
     returns
     run-lines-requires

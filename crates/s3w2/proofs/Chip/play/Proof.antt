@@ -1,6 +1,6 @@
 use borrow.Author.Needs.{needs}
-use mathlib.Core.Path.{_≡_, refl, sym, ap, _∙_}
-use mathlib.Core.Bool.{Bool}
+use mathlib.Core.Path.{_≡_, refl, sym, ap, _∙_, subst}
+use mathlib.Core.Bool.{Bool, true}
 use Prim.Native.Nat.{_*_}
 use native.Mathlib.Omega.{arith}
 use lib.Dec.{eqb}
@@ -11,6 +11,7 @@ use Rattle.tone.specs.Pcm.{isRamLength}
 use Rattle.frames.specs.Listing.{Listed, lentList, framesAsked, callCount, playedOf}
 use Rattle.frames.proofs.Asks.{asked, may-play, opened}
 use Rattle.s3w2.specs.declared.Answer.the-variants.{Done}
+use Rattle.s3w2.specs.declared.Called.{Called}
 use Rattle.s3w2.specs.Answers.{answered}
 use Rattle.s3w2.specs.Refusals.{acceptsChip, refusal}
 use Rattle.s3w2.specs.Plays.{Playing, playing, playRefusal, allPlayed, playCalled, playLeft}
@@ -45,7 +46,7 @@ returns c =
     let s = (playing (a .self) (a .ram .now) (a .queues .now) (a .values .now) (a .stems .now)) in
     let l = stays (r .result) (playRefusal (a .kinds .now) (a .addresses .now) s) e s (allPlayed (a .kinds .now) (a .addresses .now) s) h in (
       c .answers .ensures ∙ away (r .result) _ e (a .self) _ h,
-      (ap (λ (x : Playing). x .ram) l, (ap (λ (x : Playing). x .queues) l, (ap (λ (x : Playing). x .values) l, ap (λ (x : Playing). x .stems) l))),
+      (ap (λ (x : Playing). x .ram) l, (ap (λ (x : Playing). x .queues) l, (ap (λ (x : Playing). x .values) l, (ap (λ (x : Playing). x .stems) l, λ z. subst (λ (k : Called). acceptsChip (k .chip) (length (a .ram .now)) ≡ true) (sym (c .answers .ensures)) z)))),
     )
 
 play-requires : tie.Need-play-requires
@@ -83,14 +84,14 @@ returns-2 c =
     let k = c .before .before .before .before .before .before .before .before .play .ensures in
     let o = sym (opened (a .kinds .now) (a .addresses .now) (length (a .stems .now)) l0 g n refl) in
     let room = eqb-true (length (a .stems .now)) (stemsPerFrame * framesAsked (a .kinds .now) (a .addresses .now) 0 n) (t .enough) in
-    let w = list-played (a .kinds .now) (a .addresses .now) (a .self) (a .ram .now) (a .queues .now) (a .values .now) (a .stems .now) n (t .allowed) lent (omega (arith, room)) (k .1 .1 .1 .1 .1 .1 g) n (omega arith) in
+    let w = list-played (a .kinds .now) (a .addresses .now) (a .self) (a .ram .now) (a .queues .now) (a .values .now) (a .stems .now) n (t .allowed) lent (omega (arith, room)) (k .1 .1 .1 .1 .1 .1 .0 g) n (omega arith) in
     let all : asPlaying (a .stems .now) (playedOf (a .kinds .now) (a .addresses .now) (length (a .stems .now)) l0) (framesAsked (a .kinds .now) (a .addresses .now) 0 n) ≡ allPlayed (a .kinds .now) (a .addresses .now) s = ap (λ (x : Listed). asPlaying (a .stems .now) x (framesAsked (a .kinds .now) (a .addresses .now) 0 n)) o ∙ sym w in
     let l = all ∙ goes-on (r .result) (playRefusal (a .kinds .now) (a .addresses .now) s) e s (allPlayed (a .kinds .now) (a .addresses .now) s) h in (
       goes-called (r .result) (playRefusal (a .kinds .now) (a .addresses .now) s) e (a .self) (answered (allPlayed (a .kinds .now) (a .addresses .now) s .chip) Done) _ h
           (c .answers2 .ensures ∙ (λ i. answered (record { version = k .1 .0 i; core = k .0 i }) Done) ∙ ap (λ (x : Playing). answered (x .chip) Done) all),
       (
         k .1 .1 .0 ∙ ap (λ (x : Playing). x .ram) l,
-        (k .1 .1 .1 .0 ∙ ap (λ (x : Playing). x .queues) l, (k .1 .1 .1 .1 .0 ∙ ap (λ (x : Playing). x .values) l, k .1 .1 .1 .1 .1 .0 ∙ ap (λ (x : Playing). x .stems) l)),
+        (k .1 .1 .1 .0 ∙ ap (λ (x : Playing). x .queues) l, (k .1 .1 .1 .1 .0 ∙ ap (λ (x : Playing). x .values) l, (k .1 .1 .1 .1 .1 .0 ∙ ap (λ (x : Playing). x .stems) l, λ z. subst (λ (u : Called). acceptsChip (u .chip) (length (a .ram .now)) ≡ true) (sym (c .answers2 .ensures)) (k .1 .1 .1 .1 .1 .1 .1 z)))),
       ),
     )
 

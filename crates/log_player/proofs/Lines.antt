@@ -1,0 +1,399 @@
+-- The lines of a list, as the list plays them. Assumes nothing.
+use mathlib.Core.Path.{_≡_, refl, sym, ap, ap₂, _∙_, subst}
+use mathlib.Core.Bool.{Bool, true, false, cond}
+use mathlib.Core.List.{List, [], _∷_, _++_}
+use Prim.Native.Nat.{ℕ, zero, suc, _+_, _*_, _-_, _≤_, _<_, max}
+use native.Mathlib.Omega.{arith}
+use lib.Dec.{eqb}
+use lib.IntN.{ℤ, pos, natAbs}
+use lib.ListN.{length, length-replicate, take, getD, replicate}
+use lib.Seq.{getD-set-same, ext-getD}
+use borrow.Author.Tests.{eq-eqb, eqb-true}
+use Rattle.sizes.specs.Sizes.{numChannels, queueBuffer, stemsPerFrame}
+use Rattle.tone.specs.Pcm.{isRamLength}
+use Rattle.decimal.specs.Written.{Put}
+use Rattle.num.specs.Lists.{part}
+use Rattle.sides.specs.Sides.{sideSum, framesIn, addedTo, wrapping}
+use Rattle.sides.proofs.Added.{added-length}
+use Rattle.frames.specs.declared.Asked.{Asked}
+use Rattle.frames.specs.declared.Asked.the-variants as asked
+use Rattle.frames.specs.Listing.{askedOf, clockedAs, framesAsked, callCount}
+use Rattle.frames.proofs.Counts.{zero-add, frames-within}
+use Rattle.s3w2.specs.declared.Answer.{Answer}
+use Rattle.s3w2.specs.declared.Answer.the-variants.{Done}
+use Rattle.s3w2.specs.declared.Chip.{Chip}
+use Rattle.s3w2.specs.Answers.{isDone, numberOf, answered, byteAnswered}
+use Rattle.s3w2.specs.Refusals.{acceptsChip, refusal}
+use Rattle.s3w2.specs.Plays.{Playing, playing, ownStems, callPlayed, callsPlayed, playRefusal, allPlayed, playCalled, playLeft}
+use Rattle.s3w2.specs.Sound.{clockStems}
+use Rattle.s3w2.proofs.Refused.{nothing-amiss}
+use Rattle.log.specs.declared.Line.{Line}
+use Rattle.log.specs.Texts.{peakOf}
+use Rattle.log_player.specs.Worlds.{World, world}
+use Rattle.log_player.specs.Applied.{Effect, effectOf}
+use Rattle.log_player.specs.Runs.{refusedBy}
+use Rattle.log_player.specs.Batches.{lineOf, linesEffect, mostPrinted, shownLine, shown, Short, Silent, PlaysLines}
+use Rattle.log_player.proofs.Overs.{handOf}
+use Rattle.log_player.proofs.Hearing.{sets-at, zeros, part-long, part-at, added-at, sum-same, heardSide, heard-long, heard-at, Moves, Roomy, own-long, own-silent, stems-made, lookedAt, moves, worldOf, Own, one-line}
+
+-- the largest of a part, behind those before it
+peak-part : (before : ℕ) (side : List ℤ) (f c m : ℕ) → m ≤ c → peakOf (peakOf before side f) (part side f c) m ≡ peakOf before side (f + m)
+unfolding peakOf
+peak-part before side f c zero h = let e : f ≡ f + 0 = omega arith in ap (peakOf before side) e
+peak-part before side f c (suc m) h =
+    let e : suc (f + m) ≡ f + suc m = omega arith in
+    ap₂ (λ (x : ℕ) (z : ℤ). max x (natAbs z)) (peak-part before side f c m (omega arith)) (part-at side f c m h) ∙ ap (peakOf before side) e
+
+module _ (kinds addresses values : List ℕ) (w : World) (stems : List ℤ) (count : ℕ) (lots : count ≤ length values) (few : framesAsked kinds addresses 0 count ≤ 1000)
+    (room : stemsPerFrame * framesAsked kinds addresses 0 count ≤ length stems) (silence : (k : ℕ) → getD stems k (pos 0) ≡ pos 0) where
+  abbrev pub s : ℕ → Playing
+  s n = callsPlayed kinds addresses n (playing (w .player .chip) (w .ram) (w .queues) values stems)
+
+  abbrev F : ℕ → ℕ
+  F n = framesAsked kinds addresses 0 n
+
+  abbrev asks : ℕ → Asked
+  asks n = askedOf (getD kinds n 0)
+
+  abbrev a : ℕ → ℕ
+  a n = getD addresses n 0
+
+  abbrev c : ℕ → ℕ
+  c n = clockedAs (asks n) (a n)
+
+  frames-next : (n : ℕ) → F (suc n) ≡ F n + c n
+  unfolding framesAsked
+  frames-next n = ap (λ (k : ℕ). F n + clockedAs (askedOf (getD kinds k 0)) (getD addresses k 0)) (sym (zero-add n))
+
+  -- ---- before call n
+  pub record Before (n : ℕ) : Type 0 where
+    pub frames : s n .frames ≡ F n
+    pub many : length (s n .values) ≡ length values
+    pub long : length (s n .stems) ≡ length stems
+    pub values-ahead : (i : ℕ) → n ≤ i → getD (s n .values) i 0 ≡ getD values i 0
+    pub stems-ahead : (k : ℕ) → stemsPerFrame * F n ≤ k → getD (s n .stems) k (pos 0) ≡ pos 0
+
+  roomy : (n : ℕ) → n < count → Before n → Roomy kinds addresses (c n) (s n)
+  roomy n h b =
+      let w = frames-within kinds addresses 0 (suc n) count h in
+      let f = frames-next n in
+      record {
+        few = omega (arith, few, w, f);
+        room = omega (arith, b .frames, b .long, room, w, f);
+        ahead = λ k q. b .stems-ahead k (omega (arith, q, b .frames));
+      }
+
+  moved : (n : ℕ) → n < count → Before n → Moves (c n) n (s n) (s (suc n))
+  unfolding callsPlayed
+  moved n h b = moves kinds addresses (asks n) n (s n) (roomy n h b)
+
+  before-next : (n : ℕ) → n < count → Before n → Before (suc n)
+  before-next n h b =
+      let m = moved n h b in
+      let f = frames-next n in
+      record {
+        frames = omega (arith, m .frames, b .frames, f);
+        many = m .many ∙ b .many;
+        long = m .long ∙ b .long;
+        values-ahead = λ i q. m .values i (λ e. absurd (omega arith)) ∙ b .values-ahead i (omega arith);
+        stems-ahead = λ k q. m .above k (omega (arith, q, f, b .frames)) ∙ b .stems-ahead k (omega (arith, q, f));
+      }
+
+  pub before : (n : ℕ) → n ≤ count → Before n
+  unfolding callsPlayed framesAsked
+  before zero h = record { frames = refl; many = refl; long = refl; values-ahead = λ i q. refl; stems-ahead = λ k q. silence k }
+  before (suc n) h = before-next n h (before n (omega arith))
+
+  -- ---- what a call has left stays
+  stems-stay : (n m : ℕ) → n + m ≤ count → (k : ℕ) → k < stemsPerFrame * F n → getD (s (n + m) .stems) k (pos 0) ≡ getD (s n .stems) k (pos 0)
+  stems-stay n zero h k l = let e : n + 0 ≡ n = omega arith in ap (λ (j : ℕ). getD (s j .stems) k (pos 0)) e
+  stems-stay n (suc m) h k l =
+      let e : n + suc m ≡ suc (n + m) = omega arith in
+      let b = before (n + m) (omega arith) in
+      ap (λ (j : ℕ). getD (s j .stems) k (pos 0)) e
+      ∙ moved (n + m) (omega arith) b .below k (omega (arith, l, b .frames, frames-within kinds addresses 0 n (n + m) (omega arith)))
+      ∙ stems-stay n m (omega arith) k l
+
+  values-stay : (n m : ℕ) → n + m ≤ count → (i : ℕ) → i < n → getD (s (n + m) .values) i 0 ≡ getD (s n .values) i 0
+  values-stay n zero h i l = let e : n + 0 ≡ n = omega arith in ap (λ (j : ℕ). getD (s j .values) i 0) e
+  values-stay n (suc m) h i l =
+      let e : n + suc m ≡ suc (n + m) = omega arith in
+      ap (λ (j : ℕ). getD (s j .values) i 0) e
+      ∙ moved (n + m) (omega arith) (before (n + m) (omega arith)) .values i (λ q. absurd (omega arith))
+      ∙ values-stay n m (omega arith) i l
+
+  abbrev pub T : List ℤ
+  T = s count .stems
+
+  abbrev pub bytes : List ℕ
+  bytes = s count .values
+
+  last-stems : (n : ℕ) → n < count → (k : ℕ) → k < stemsPerFrame * F (suc n) → getD T k (pos 0) ≡ getD (s (suc n) .stems) k (pos 0)
+  last-stems n h k l =
+      let e : count ≡ suc n + (count - suc n) = omega arith in
+      ap (λ (j : ℕ). getD (s j .stems) k (pos 0)) e ∙ stems-stay (suc n) (count - suc n) (omega arith) k l
+
+  last-values : (n : ℕ) → n < count → getD bytes n 0 ≡ getD (s (suc n) .values) n 0
+  last-values n h =
+      let e : count ≡ suc n + (count - suc n) = omega arith in
+      ap (λ (j : ℕ). getD (s j .values) n 0) e ∙ values-stay (suc n) (count - suc n) (omega arith) n (omega arith)
+
+  -- the byte that call n shows
+  shows-byte : (n : ℕ) → n < count → asks n ≡ asked.Look → getD bytes n 0 ≡ byteAnswered (lookedAt kinds addresses n (s n) .answer)
+  unfolding callsPlayed
+  shows-byte n h e =
+      last-values n h ∙ ap (λ (t : Asked). getD (callPlayed kinds addresses t n (s n) .values) n 0) e
+      ∙ getD-set-same (s n .values) n (byteAnswered (lookedAt kinds addresses n (s n) .answer)) 0 (omega (arith, h, lots, before n (omega arith) .many))
+
+  -- ---- the sides that the stems add up to
+  module _ (right : Bool) where
+    abbrev pub side : List ℤ
+    side = addedTo wrapping (F count) T (handOf right) 0 (replicate (F count) (pos 0))
+
+    pub side-long : length side ≡ F count
+    side-long = added-length wrapping T (handOf right) 0 (replicate (F count) (pos 0)) (F count) ∙ length-replicate (F count) (pos 0)
+
+    hand-low : (right : Bool) → handOf right ≤ 1
+    hand-low true = omega arith
+    hand-low false = omega arith
+
+    module _ (n : ℕ) (h : n < count) (e : asks n ≡ asked.Clock) where
+      b : Before n
+      b = before n (omega (arith, h))
+
+      many : c n ≡ a n
+      many = ap (λ (t : Asked). clockedAs t (a n)) e
+
+      q : Roomy kinds addresses (a n) (s n)
+      q = subst (λ (k : ℕ). Roomy kinds addresses k (s n)) many (roomy n h b)
+
+      abbrev given : List ℤ
+      given = clockStems (s n .chip) (s n .ram) (s n .queues) (a n) (ownStems (s n) (a n))
+
+      own-stem : (k : ℕ) → k < stemsPerFrame * a n → getD T (stemsPerFrame * F n + k) (pos 0) ≡ getD given k (pos 0)
+      unfolding callsPlayed
+      own-stem k l =
+          let f = frames-next n in
+          let g = stems-made kinds addresses (s n) (a n) q in
+          let i : stemsPerFrame * F n + k ≡ stemsPerFrame * s n .frames + k = omega (arith, b .frames) in
+          last-stems n h (stemsPerFrame * F n + k) (omega (arith, l, f, many))
+          ∙ ap (λ (t : Asked). getD (callPlayed kinds addresses t n (s n) .stems) (stemsPerFrame * F n + k) (pos 0)) e
+          ∙ ap (λ (j : ℕ). getD (callPlayed kinds addresses asked.Clock n (s n) .stems) j (pos 0)) i
+          ∙ sets-at (pos 0) given (s n .stems) (stemsPerFrame * s n .frames) k (omega (arith, l, g)) (omega (arith, g, q .room))
+
+      same-sum : (i : ℕ) → i < a n → sideSum numChannels T (stemsPerFrame * (F n + i) + handOf right) ≡ sideSum numChannels given (stemsPerFrame * i + handOf right)
+      same-sum i l =
+          sum-same numChannels T given (stemsPerFrame * (F n + i) + handOf right) (stemsPerFrame * i + handOf right)
+          (λ m o.
+          let j : stemsPerFrame * (F n + i) + handOf right + 2 * m ≡ stemsPerFrame * F n + (stemsPerFrame * i + handOf right + 2 * m) = omega arith in
+          ap (λ (k : ℕ). getD T k (pos 0)) j ∙ own-stem (stemsPerFrame * i + handOf right + 2 * m) (omega (arith, l, o, hand-low right)))
+
+      own-side : part side (F n) (c n) ≡ heardSide (s n .chip) (s n .ram) (s n .queues) (a n) (q .few) (ownStems (s n) (a n)) (own-silent kinds addresses (s n) (a n) q) (own-long kinds addresses (s n) (a n) q) right
+      own-side =
+          let o = own-silent kinds addresses (s n) (a n) q in
+          let g = own-long kinds addresses (s n) (a n) q in
+          let w = frames-within kinds addresses 0 (suc n) count h in
+          let f = frames-next n in
+          let l = part-long side (F n) (c n) (omega (arith, w, f, side-long)) in
+          ext-getD (pos 0) (part side (F n) (c n)) (heardSide (s n .chip) (s n .ram) (s n .queues) (a n) (q .few) (ownStems (s n) (a n)) o g right)
+          (l ∙ many ∙ sym (heard-long (s n .chip) (s n .ram) (s n .queues) (a n) (q .few) (ownStems (s n) (a n)) o g right))
+          (λ i m.
+          let small : i < a n = omega (arith, m, l, many) in
+          part-at side (F n) (c n) i (omega (arith, m, l))
+          ∙ ap (λ (j : ℕ). getD side j (pos 0)) (zero-add (F n + i))
+          ∙ added-at wrapping T (handOf right) 0 (replicate (F count) (pos 0)) (F count) (F n + i) (omega (arith, small, many, w, f)) (omega (arith, length-replicate (F count) (pos 0)))
+          ∙ ap₂ wrapping (zeros (F count) (0 + (F n + i))) (same-sum i small)
+          ∙ sym (heard-at (s n .chip) (s n .ram) (s n .queues) (a n) (q .few) (ownStems (s n) (a n)) o g right i small))
+
+  abbrev L : List ℤ
+  L = side false
+
+  abbrev R : List ℤ
+  R = side true
+
+  owns : (n : ℕ) → n < count → Own kinds addresses (asks n) n (s n) (part L (F n) (c n)) (part R (F n) (c n)) (getD bytes n 0)
+  owns n h = record { shows = shows-byte n h; lefts = own-side false n h; rights = own-side true n h }
+
+  -- ---- THE LINES: after n of them
+  abbrev heardTo : ℕ → Effect
+  heardTo n = record {
+    after = worldOf kinds addresses (s n) (peakOf (w .player .left) L (F n)) (peakOf (w .player .right) R (F n));
+    text = shown kinds addresses bytes L R n;
+  }
+
+  abbrev line : ℕ → Line
+  line n = lineOf (getD kinds n 0) (a n) (getD values n 0)
+
+  abbrev next : ℕ → Effect → Effect
+  next n b = record { after = effectOf (b .after) (line n) .after; text = b .text ++ effectOf (b .after) (line n) .text }
+
+  heard-next : (n : ℕ) → n < count → next n (heardTo n) ≡ heardTo (suc n)
+  unfolding callsPlayed shown shownLine lineOf
+  heard-next n h =
+      let b = before n (omega (arith, h)) in
+      let f = sym (frames-next n) in
+      let l = w .player .left in
+      let r = w .player .right in
+      let xl = part L (F n) (c n) in
+      let xr = part R (F n) (c n) in
+      ap (λ (e : Effect). record { after = e .after; text = shown kinds addresses bytes L R n ++ e .text })
+      (one-line kinds addresses n (s n) (peakOf l L (F n)) (peakOf r R (F n)) (getD values n 0) (getD bytes n 0) xl xr (asks n) (roomy n h b) (b .values-ahead n (omega arith)) (owns n h))
+      ∙ (λ i. record {
+        after = worldOf kinds addresses (s (suc n)) ((peak-part l L (F n) (c n) (c n) (omega arith) ∙ ap (peakOf l L) f) i) ((peak-part r R (F n) (c n) (c n) (omega arith) ∙ ap (peakOf r R) f) i);
+        text = shown kinds addresses bytes L R (suc n);
+      })
+
+  pub heard-lines : (n : ℕ) → n ≤ count → linesEffect kinds addresses values n w
+      ≡ record {
+        after = worldOf kinds addresses (s n) (peakOf (w .player .left) (side false) (framesAsked kinds addresses 0 n)) (peakOf (w .player .right) (side true) (framesAsked kinds addresses 0 n));
+        text = shown kinds addresses bytes (side false) (side true) n;
+      }
+  unfolding linesEffect callsPlayed framesAsked peakOf shown
+  heard-lines zero h = refl
+  heard-lines (suc n) h = ap (next n) (heard-lines n (omega arith)) ∙ heard-next n h
+
+-- ---- buffers of zeros
+take-zeros : (n m : ℕ) → n ≤ m → take n (replicate m (pos 0)) ≡ replicate n (pos 0)
+take-zeros zero m h = refl
+take-zeros (suc n) zero h = absurd (omega arith)
+take-zeros (suc n) (suc m) h = ap (λ (l : List ℤ). pos 0 ∷ l) (take-zeros n m (omega arith))
+
+pub silent-buffers :
+    (kinds addresses values : List ℕ) (f most stems : ℕ) → (length addresses ≡ length kinds) × (length values ≡ length kinds) × (f ≡ framesAsked kinds addresses 0 (length kinds)) × (f ≤ most) → f ≤ 1000 → stems ≡ stemsPerFrame * most →
+    Silent kinds addresses values (take (stemsPerFrame * f) (replicate stems (pos 0))) (take f (replicate most (pos 0))) (take f (replicate most (pos 0)))
+silent-buffers kinds addresses values f most stems h few e =
+    let n = h .2 in
+    let side = take-zeros f most (h .3) ∙ ap (λ (k : ℕ). replicate k (pos 0)) n in
+    record {
+      many = (h .0, h .1);
+      few = omega (arith, few, n);
+      stemmed = take-zeros (stemsPerFrame * f) stems (omega (arith, e, h .3)) ∙ ap (λ (k : ℕ). replicate (stemsPerFrame * k) (pos 0)) n;
+      lefts = side;
+      rights = side;
+    }
+
+-- ---- a world whose calls are not refused
+pub record Accepted (w : World) : Type 0 where
+  pub allowed : isRamLength (length (w .ram)) ≡ true
+  pub lent : length (w .queues) ≡ queueBuffer
+  pub accepted : acceptsChip (w .player .chip) (length (w .ram)) ≡ true
+
+module _ (w : World) where
+  abbrev fine : Bool → Bool → Bool → Type 0
+  fine ram queues state = (ram ≡ true) × (queues ≡ true) × (state ≡ true)
+
+  no-number : (ram queues state : Bool) → getD (numberOf (refusal ram queues state true)) 0 0 ≡ 0 → fine ram queues state
+  unfolding refusal
+  no-number true true true e = (refl, refl, refl)
+  no-number true true false e = absurd (omega (arith, e))
+  no-number true false state e = absurd (omega (arith, e))
+  no-number false queues state e = absurd (omega (arith, e))
+
+  pub accepted-of : refusedBy w ≡ 0 → Accepted w
+  unfolding refusedBy
+  accepted-of e =
+      let f = no-number (isRamLength (length (w .ram))) (eqb (length (w .queues)) queueBuffer) (acceptsChip (w .player .chip) (length (w .ram))) e in
+      record { allowed = f .0; lent = eqb-true (length (w .queues)) queueBuffer (f .1); accepted = f .2 }
+
+  pub of-accepted : Accepted w → refusedBy w ≡ 0
+  unfolding refusedBy
+  of-accepted f =
+      ap (λ (r : Answer). getD (numberOf r) 0 0)
+      (sym (nothing-amiss (isRamLength (length (w .ram))) (eqb (length (w .queues)) queueBuffer) (acceptsChip (w .player .chip) (length (w .ram))) true (f .allowed) (eq-eqb (length (w .queues)) queueBuffer (f .lent)) (f .accepted) refl))
+
+-- ---- a list played over silent buffers
+module _ (kinds addresses values : List ℕ) (w : World) (stems left right : List ℤ) (ok : refusedBy w ≡ 0) (z : Silent kinds addresses values stems left right) where
+  abbrev N : ℕ
+  N = length kinds
+
+  abbrev all : ℕ
+  all = framesAsked kinds addresses 0 (length kinds)
+
+  abbrev start : Playing
+  start = playing (w .player .chip) (w .ram) (w .queues) values stems
+
+  stems-many : length stems ≡ stemsPerFrame * all
+  stems-many = ap length (z .stemmed) ∙ length-replicate (stemsPerFrame * all) (pos 0)
+
+  pub lots : length kinds ≤ length values
+  lots = omega (arith, z .many .1)
+
+  pub room : stemsPerFrame * framesAsked kinds addresses 0 (length kinds) ≤ length stems
+  room = omega (arith, stems-many)
+
+  pub silence : (k : ℕ) → getD stems k (pos 0) ≡ pos 0
+  silence k = ap (λ (l : List ℤ). getD l k (pos 0)) (z .stemmed) ∙ zeros (stemsPerFrame * all) k
+
+  counts : callCount kinds addresses values ≡ N
+  counts = omega (arith, z .many .0, z .many .1)
+
+  goes : isDone (playRefusal kinds addresses start) ≡ true
+  goes =
+      let f = accepted-of w ok in
+      let n : length stems ≡ stemsPerFrame * framesAsked kinds addresses 0 (callCount kinds addresses values) = stems-many ∙ ap (λ (k : ℕ). stemsPerFrame * framesAsked kinds addresses 0 k) (sym counts) in
+      ap isDone
+      (sym (nothing-amiss (isRamLength (length (w .ram))) (eqb (length (w .queues)) queueBuffer) (acceptsChip (w .player .chip) (length (w .ram))) (eqb (length stems) (stemsPerFrame * framesAsked kinds addresses 0 (callCount kinds addresses values)))
+      (f .allowed) (eq-eqb (length (w .queues)) queueBuffer (f .lent)) (f .accepted) (eq-eqb (length stems) (stemsPerFrame * framesAsked kinds addresses 0 (callCount kinds addresses values)) n)))
+
+  abbrev last : Playing
+  last = callsPlayed kinds addresses N start
+
+  left-is : playLeft kinds addresses start ≡ last
+  unfolding playLeft
+  left-is = ap (λ (b : Bool). cond b (allPlayed kinds addresses start) start) goes ∙ ap (λ (n : ℕ). callsPlayed kinds addresses n start) counts
+
+  chip-is : playCalled kinds addresses start .chip ≡ last .chip
+  unfolding playCalled
+  chip-is =
+      ap (λ (b : Bool). cond b (answered (allPlayed kinds addresses start .chip) Done) (answered (w .player .chip) (playRefusal kinds addresses start)) .chip) goes
+      ∙ ap (λ (n : ℕ). callsPlayed kinds addresses n start .chip) counts
+
+  abbrev heardOn : Bool → List ℤ
+  heardOn right = side kinds addresses values w stems (length kinds) lots (z .few) room silence right
+
+  module _ (stems′ : List ℤ) (e : stems′ ≡ playLeft kinds addresses start .stems) where
+    stems-are : stems′ ≡ last .stems
+    stems-are = e ∙ ap (λ (p : Playing). p .stems) left-is
+
+    frames-in : framesIn (length stems′) (length left) (length right) 0 ≡ all
+    unfolding framesIn
+    frames-in =
+        let b = before kinds addresses values w stems (length kinds) lots (z .few) room silence N (omega arith) .long in
+        let l = ap length (z .lefts) ∙ length-replicate all (pos 0) in
+        let r = ap length (z .rights) ∙ length-replicate all (pos 0) in
+        omega (arith, ap length stems-are, b, stems-many, l, r)
+
+    pub sides-are : (right′ : Bool) (x y : List ℤ) → y ≡ replicate (framesAsked kinds addresses 0 (length kinds)) (pos 0) → x ≡ addedTo wrapping (framesIn (length stems′) (length left) (length right) 0) stems′ (handOf right′) 0 y → x ≡ heardOn right′
+    sides-are right′ x y ey ex =
+        ex ∙ ap (λ (n : ℕ). addedTo wrapping n stems′ (handOf right′) 0 y) frames-in
+        ∙ ap₂ (λ (l k : List ℤ). addedTo wrapping all l (handOf right′) 0 k) stems-are ey
+
+  module _ (chip : Chip) (ram : List ℕ) (queues : List ℤ) (values′ : List ℕ) (l r : List ℤ) (pl pr : ℕ) (out now : List ℕ) (at end : ℕ) where
+    pub plays-lines :
+        chip ≡ playCalled kinds addresses (playing (w .player .chip) (w .ram) (w .queues) values stems) .chip → ram ≡ playLeft kinds addresses (playing (w .player .chip) (w .ram) (w .queues) values stems) .ram →
+        queues ≡ playLeft kinds addresses (playing (w .player .chip) (w .ram) (w .queues) values stems) .queues → values′ ≡ playLeft kinds addresses (playing (w .player .chip) (w .ram) (w .queues) values stems) .values →
+        l ≡ heardOn false → r ≡ heardOn true → pl ≡ peakOf (w .player .left) l (length l) → pr ≡ peakOf (w .player .right) r (length r) →
+        Put out now at (shown kinds addresses values′ l r (length kinds)) end → Short kinds addresses values′ l r (length kinds) →
+        length ram ≡ length (w .ram) → length queues ≡ length (w .queues) → (acceptsChip (w .player .chip) (length (w .ram)) ≡ true → acceptsChip chip (length (w .ram)) ≡ true) →
+        PlaysLines kinds addresses values w (world (record { chip = chip; left = pl; right = pr }) ram queues) out now at end
+    plays-lines ec em eq ev el er epl epr put short lm lq kept = record {
+      after = (λ i. world (record { chip = (ec ∙ chip-is) i; left = (epl ∙ ap₂ (peakOf (w .player .left)) el long-left) i; right = (epr ∙ ap₂ (peakOf (w .player .right)) er long-right) i }) ((em ∙ ap (λ (p : Playing). p .ram) left-is) i) ((eq ∙ ap (λ (p : Playing). p .queues) left-is) i)) ∙ sym (ap (λ (x : Effect). x .after) (lines N (omega arith)));
+      put = subst (λ (t : List ℕ). Put out now at t end) (texts N (omega arith)) put;
+      short = λ j h. subst (λ (t : List ℕ). length t ≤ mostPrinted kinds addresses j) (texts j h) (short j h);
+      accepted = of-accepted (world (record { chip = chip; left = pl; right = pr }) ram queues) (record { allowed = ap isRamLength lm ∙ f .allowed; lent = lq ∙ f .lent; accepted = ap (acceptsChip chip) lm ∙ kept (f .accepted) });
+    }
+      where
+        f : Accepted w
+        f = accepted-of w ok
+
+        lines : (n : ℕ) → n ≤ N → linesEffect kinds addresses values n w ≡ record { after = worldOf kinds addresses (callsPlayed kinds addresses n start) (peakOf (w .player .left) (heardOn false) (framesAsked kinds addresses 0 n)) (peakOf (w .player .right) (heardOn true) (framesAsked kinds addresses 0 n)); text = shown kinds addresses (last .values) (heardOn false) (heardOn true) n }
+        lines n h = heard-lines kinds addresses values w stems (length kinds) lots (z .few) room silence n h
+
+        texts : (n : ℕ) → n ≤ N → shown kinds addresses values′ l r n ≡ linesEffect kinds addresses values n w .text
+        texts n h = (λ i. shown kinds addresses ((ev ∙ ap (λ (p : Playing). p .values) left-is) i) (el i) (er i) n) ∙ sym (ap (λ (x : Effect). x .text) (lines n h))
+
+        long-left : length l ≡ all
+        long-left = ap length el ∙ side-long kinds addresses values w stems (length kinds) lots (z .few) room silence false
+
+        long-right : length r ≡ all
+        long-right = ap length er ∙ side-long kinds addresses values w stems (length kinds) lots (z .few) room silence true
