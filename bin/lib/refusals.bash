@@ -1,7 +1,7 @@
 # What a refusal says, in words. The numbers are those of docs/SPECIFICATION.md, "Numbers of what is turned away".
 
-# The field of a line that is at fault, its value (at most 40 characters, all printable) and what was expected there. KIND is `log`, `terms`
-# (sqv4-make's first line) or `sample`.
+# The field of a line that is at fault, its value (at most 40 characters, all printable) and what was expected there. KIND is `log`,
+# `timed`, `terms` (sqv4-make's first line) or `sample`.
 field_at_fault() { # KIND LINE
     KIND=$1 LINE=$2 LC_ALL=C awk 'BEGIN {
         line = ENVIRON["LINE"]; kind = ENVIRON["KIND"]
@@ -12,11 +12,17 @@ field_at_fault() { # KIND LINE
             number(1, 0, 2, "a variant"); number(2, 0, "4294967295", "a sample rate")
             number(3, 0, 255, "a volume"); number(4, 0, 255, "a step index"); last(4)
         }
-        if (f[1] !~ /^[WMRPCV]$/) wrong(1, "W, M, R, P, C or V")
-        if (f[1] == "W" || f[1] == "M") { number(2, 0, "4294967295", "an address"); number(3, 0, 255, "a byte"); last(3) }
-        if (f[1] == "R" || f[1] == "P") { number(2, 0, "4294967295", "an address"); last(2) }
-        if (f[1] == "C") { number(2, 1, 1000, "a number of frames"); last(2) }
-        number(2, 0, 4, "a version"); last(2)
+        at = 1
+        if (kind == "timed") {
+            number(1, 0, "4294967295", "a frame"); at = 2
+            if (n < 2) tell("it ends before field 2, W, M, R, P or V")
+            if (f[2] !~ /^[WMRPV]$/) wrong(2, "W, M, R, P or V (the stamps say when frames sound)")
+        }
+        if (f[at] !~ /^[WMRPCV]$/) wrong(at, "W, M, R, P, C or V")
+        if (f[at] == "W" || f[at] == "M") { number(at + 1, 0, "4294967295", "an address"); number(at + 2, 0, 255, "a byte"); last(at + 2) }
+        if (f[at] == "R" || f[at] == "P") { number(at + 1, 0, "4294967295", "an address"); last(at + 1) }
+        if (f[at] == "C") { number(at + 1, 1, 1000, "a number of frames"); last(at + 1) }
+        number(at + 1, 0, 4, "a version"); last(at + 1)
     }
     function tell(words) { print words; exit }
     function wrong(k, wanted) {
@@ -59,12 +65,19 @@ malformed_line() { # KIND NUMBER WHAT
     echo "line $2 is $3${fault:+: $fault}"
 }
 
-# A register above the last one.
-unmapped_line() { # NUMBER
-    local text letter address
+# A register above the last one, in the field behind the letter's.
+unmapped_line() { # NUMBER FIELD
+    local text
     text=$(line_of_input "$1") || { echo "line $1 names a register above 2303, the last one"; return; }
-    IFS=, read -r letter address _ <<< "$text"
-    echo "line $1 names register $address in its field 2, expected 0 to 2303"
+    echo "line $1 names register $(cut -d , -f "$2" <<< "$text") in its field $2, expected 0 to 2303"
+}
+
+# A line of a timed log whose stamp is below that of the line before it.
+late_line() { # NUMBER
+    local text before
+    text=$(line_of_input "$1") && before=$(line_of_input $(($1 - 1))) ||
+        { echo "line $1 is too late (18): its frame is below that of the line before it"; return; }
+    echo "line $1 is too late (18): field 1 is \"${text%%,*}\", expected the frame of the line before it, ${before%%,*}, or a later one"
 }
 
 # Of a state that can be read again, the first line, from 0, whose field number FIELD is at fault, and that field: the lines before the one
@@ -196,8 +209,12 @@ refusal() { # LINE
         else malformed_line sample "${values[0]}" 'no sample (17)'
         fi
         ;;
+    bad:s3w2_timed:17) malformed_line timed "${values[0]}" 'no line of a log with frame times (17)' ;;
+    bad:s3w2_timed:18) late_line "${values[0]}" ;;
+    bad:s3w2_timed:19) echo "line ${values[0]} is the 65th of its frame (19), expected at most 64" ;;
+    bad:s3w2_timed:27) unmapped_line "${values[0]}" 3 ;;
     bad:*:17) malformed_line log "${values[0]}" 'no line of a log (17)' ;;
-    bad:*:27) unmapped_line "${values[0]}" ;;
+    bad:*:27) unmapped_line "${values[0]}" 2 ;;
     bad:*) echo "line ${values[0]} is refused with number ${values[1]-}" ;;
     esac
 }

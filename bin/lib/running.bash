@@ -144,8 +144,8 @@ ended() {
         ;;
     esac
     case $crate:$closing in
-    s3w2_log:peak,* | s3w2_load:peak,* | s3w2_save:state | sqv4_make:file | sqv4_dump:?* | s3w2_notes:382,*) exit 0 ;;
-    s3w2_log:* | s3w2_load:* | s3w2_save:* | sqv4_make:* | sqv4_dump:* | s3w2_notes:*)
+    s3w2_log:peak,* | s3w2_timed:peak,* | s3w2_load:peak,* | s3w2_save:state | sqv4_make:file | sqv4_dump:?* | s3w2_notes:382,*) exit 0 ;;
+    s3w2_log:* | s3w2_timed:* | s3w2_load:* | s3w2_save:* | sqv4_make:* | sqv4_dump:* | s3w2_notes:*)
         cannot "it stopped before its end, and what it printed is not whole" ;;
     esac
     exit 0

@@ -20,7 +20,7 @@ use Rattle.timed_log.specs.declared.Clockwork.{Clockwork}
 use Rattle.timed_log.specs.Lines.{dueOf, judged}
 use Rattle.timed_log.specs.Unrolled.{clockLine, noFrames, applied}
 use Rattle.timed_log.proofs.Judging.{due-is, taken-is}
-use Rattle.timed_as_plain.specs.Scores.{DueLine, End, over, stop, Score, ends, lineScored, scored, score, gapLines, plainLines, lastLines, allLines, plainLog, sounded, closing, leftText, timedText}
+use Rattle.timed_as_plain.specs.Scores.{DueLine, End, over, stop, Score, ends, lineScored, scored, score, gapLines, unrolledLines, lastLines, allLines, plainLog, sounded, closing, leftText, timedText}
 use Rattle.timed_as_plain.proofs.Lines.{no-end-append, no-end-drop, clock-playable, every-append, gap-playable}
 use Rattle.timed_as_plain.proofs.Plays.{played-append, sounded-append}
 
@@ -82,11 +82,11 @@ dues-playable (c ∷ cs) k n line h = go (eqb c 10) refl (λ a m. dues-playable 
     go true e ih next = at (judged k (dueOf line)) refl ih
     go false e ih next = next (no-end-append line (c ∷ []) h (ap (λ (b : Bool). cond b false true) e))
 
-pub plain-playable : (dues : List DueLine) (frames : ℕ) → Every PlayableDue dues → Every Playable (plainLines frames dues)
+pub plain-playable : (dues : List DueLine) (frames : ℕ) → Every PlayableDue dues → Every Playable (unrolledLines frames dues)
 plain-playable [] frames p = tt
-plain-playable (d ∷ dues) frames p = every-append Playable (gapLines (d .stamp - frames)) (d .line ∷ plainLines (d .stamp) dues) (gap-playable (d .stamp - frames)) (p .0, plain-playable dues (d .stamp) (p .1))
+plain-playable (d ∷ dues) frames p = every-append Playable (gapLines (d .stamp - frames)) (d .line ∷ unrolledLines (d .stamp) dues) (gap-playable (d .stamp - frames)) (p .0, plain-playable dues (d .stamp) (p .1))
 
-pub score-playable : (input : List ℕ) → Every Playable (plainLines 0 (score input .dues))
+pub score-playable : (input : List ℕ) → Every Playable (unrolledLines 0 (score input .dues))
 score-playable input = plain-playable (score input .dues) 0 (dues-playable input noFrames 1 [] refl)
 
 last-playable : (k : Clockwork) → Every Playable (lastLines k)
@@ -96,7 +96,7 @@ last-playable k = cond-by (Every Playable) (ltb 0 (k .lines)) (clockLine 1 ∷ [
 pub as-plain : (input : List ℕ) → score input .end ≡ over → timedText input ≡ logText (plainLog input)
 as-plain input e =
     let s = score input in
-    let lines = plainLines 0 (s .dues) in
+    let lines = unrolledLines 0 (s .dues) in
     let w = played freshWorld lines in
     let last = lastLines (s .clock) in
     ap (λ (x : End). sounded freshWorld lines ++ closing w (s .clock) x) e

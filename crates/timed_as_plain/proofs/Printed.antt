@@ -25,7 +25,7 @@ use Rattle.timed_log.specs.Unrolled.{clockLine, noFrames}
 use Rattle.timed_log.specs.Turns.{Stand, stand, Turn, turnOver}
 use Rattle.timed_log.specs.Ends.{lastText, soundsLast, runNone, lastRun, toldLast, lastTold}
 use Rattle.timed_as_plain.specs.Scores.{Score, over, stop, ends, scored, lastLines, sounded, closing, leftText, timedText}
-use Rattle.timed_as_plain.specs.Prints.{restOf, refilled, ending, told, Prints, again, more, last, bad}
+use Rattle.timed_as_plain.specs.Prints.{restOf, refilled, ending, Prints, again, more, last, bad}
 use Rattle.timed_as_plain.proofs.Lines.{clock-playable}
 use Rattle.timed_as_plain.proofs.Scored.{score-open, open-all}
 use Rattle.timed_as_plain.proofs.Plays.{Where, all, some, Stopped, stops}

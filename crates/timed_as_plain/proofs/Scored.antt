@@ -29,7 +29,7 @@ use Rattle.timed_log.specs.Lines.{frameMost, stampMost, longest, stampedLine, d
 use Rattle.timed_log.specs.Unrolled.{clockMost, clockLine, clockwork, applied}
 use Rattle.timed_log.proofs.Judging.{IsDue, IsTaken}
 use Rattle.timed_log.proofs.Found.{first-split, Found}
-use Rattle.timed_as_plain.specs.Scores.{DueLine, dueLine, over, stop, Score, ends, dueBefore, lineScored, scored, gapLines, plainLines, closing, sounded, leftText}
+use Rattle.timed_as_plain.specs.Scores.{DueLine, dueLine, over, stop, Score, ends, dueBefore, lineScored, scored, gapLines, unrolledLines, closing, sounded, leftText}
 use Rattle.timed_as_plain.proofs.Lines.{no-end-drop, first-no-end, gap-more}
 
 -- ---- bytes before the first byte 10
@@ -137,7 +137,7 @@ module _ (k : Clockwork) (rest : List ℕ) (at stamp from to : ℕ) (f : Found k
       → leftText w waiting (k .frames) (scored k n [] (rest ++ more)) ≡ leftText w (waiting ++ (gapLines (stamp - k .frames) ++ (lineDue ∷ []))) (applied k stamp .frames) (scored (applied k stamp) (suc n) [] behind)
   left-line w waiting =
       ap (leftText w waiting (k .frames)) scored-due
-      ∙ ap (λ (l : List (List ℕ)). sounded w l ++ closing (played w l) (s .clock) (s .end)) (parted waiting (gapLines (stamp - k .frames)) lineDue (plainLines stamp (s .dues)))
+      ∙ ap (λ (l : List (List ℕ)). sounded w l ++ closing (played w l) (s .clock) (s .end)) (parted waiting (gapLines (stamp - k .frames)) lineDue (unrolledLines stamp (s .dues)))
       ∙ ap (λ (i : ℕ). leftText w (waiting ++ (gapLines (stamp - k .frames) ++ (lineDue ∷ []))) i s) (sym (applied-frames k stamp))
     where
       s : Score
@@ -190,7 +190,7 @@ module _ (k : Clockwork) (rest : List ℕ) (at stamp from to : ℕ) (f : Found k
       s = scored (applied on stamp) (suc n) [] rests
 
       tail : List (List ℕ)
-      tail = drop (f .begin) (firstLine rest) ∷ plainLines stamp (s .dues)
+      tail = drop (f .begin) (firstLine rest) ∷ unrolledLines stamp (s .dues)
 
       gaps : gapLines (stamp - k .frames) ≡ clockLine clockMost ∷ gapLines (stamp - (k .frames + clockMost))
       gaps = gap-more (stamp - k .frames) far ∙ ap (λ (g : ℕ). clockLine clockMost ∷ gapLines g) (let e : stamp - k .frames - clockMost ≡ stamp - (k .frames + clockMost) = omega arith in e)

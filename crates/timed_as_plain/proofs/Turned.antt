@@ -29,7 +29,7 @@ use Rattle.timed_log.specs.Unrolls.{Reach, reach, unrollFrom}
 use Rattle.timed_log.specs.Turns.{Stand, stand, Turn, turn, leftOf, goesOn, playedAs, playedOn, nextAt, toldAs, told, standsAt, writtenAs, writtenOut, turnOver}
 use Rattle.timed_log.proofs.Found.{first-split}
 use Rattle.timed_log.proofs.Reaching.{unroll-within}
-use Rattle.timed_as_plain.specs.Scores.{Score, stop, ends, lineScored, scored, plainLines, sounded, closing, leftText}
+use Rattle.timed_as_plain.specs.Scores.{Score, stop, ends, lineScored, scored, unrolledLines, sounded, closing, leftText}
 use Rattle.timed_as_plain.proofs.Lines.{first-no-end}
 use Rattle.timed_as_plain.proofs.Scored.{score-line, score-long, open-all}
 use Rattle.timed_as_plain.proofs.Writes.{half-append, Written, unrolls}
@@ -66,7 +66,7 @@ After s lines input t (Refused why) = Unit {0}
 -- ---- some lines played
 left-split : (a b : List (List ℕ)) (w : World) (frames : ℕ) (s : Score) → leftText w (a ++ b) frames s ≡ sounded w a ++ leftText (played w a) b frames s
 left-split a b w frames s =
-    let p = plainLines frames (s .dues) in
+    let p = unrolledLines frames (s .dues) in
     let e : (a ++ b) ++ p ≡ a ++ (b ++ p) = append-assoc a b p in
     ap (λ (l : List (List ℕ)). sounded w l ++ closing (played w l) (s .clock) (s .end)) e
     ∙ ap₂ (λ (x : List ℕ) (v : World). x ++ closing v (s .clock) (s .end)) (sounded-append a (b ++ p) w) (played-append a (b ++ p) w)

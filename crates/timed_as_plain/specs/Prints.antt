@@ -19,8 +19,8 @@ restOf s input = drop (s .place) input
 abbrev pub ending : ℕ → Stand → List ℕ → Run
 ending room s input = lastRun room (s .world) (s .clock) (length (restOf s input))
 
-abbrev pub told : Stand → List ℕ → Run → List ℕ
-told s input r = lastTold (s .number) (length (restOf s input)) r
+abbrev pub toldAtEnd : Stand → List ℕ → Run → List ℕ
+toldAtEnd s input r = lastTold (s .number) (length (restOf s input)) r
 
 -- from a stand over an input, with such parts to come, so much is printed: every way a run can go to its end
 pub data Prints (room : ℕ) : Stand → List ℕ → List (List ℕ) → List ℕ → Type 0 where
@@ -30,5 +30,5 @@ pub data Prints (room : ℕ) : Stand → List ℕ → List (List ℕ) → List �
       → Prints room (refilled (turnOver room input s .stand)) (restOf (turnOver room input s .stand) input ++ part) parts text
       → Prints room s input (part ∷ parts) (turnOver room input s .text ++ text)
   last : (s : Stand) (input : List ℕ) → turnOver room input s .next ≡ Rest → ending room (turnOver room input s .stand) input .next ≡ Rest
-      → Prints room s input [] (turnOver room input s .text ++ told (turnOver room input s .stand) input (ending room (turnOver room input s .stand) input))
+      → Prints room s input [] (turnOver room input s .text ++ toldAtEnd (turnOver room input s .stand) input (ending room (turnOver room input s .stand) input))
   bad : (s : Stand) (input : List ℕ) (parts : List (List ℕ)) (why : ℕ) → turnOver room input s .next ≡ Bad why → Prints room s input parts (turnOver room input s .text)

@@ -66,16 +66,16 @@ unfoldable pub gapLines : ℕ → List (List ℕ)
 gapLines gap = replicate (gap / clockMost) (clockLine clockMost) ++ cond (eqb (gap % clockMost) 0) [] (clockLine (gap % clockMost) ∷ [])
 
 -- behind so many frames
-abbrev pub plainLines : ℕ → List DueLine → List (List ℕ)
-plainLines frames [] = []
-plainLines frames (d ∷ dues) = gapLines (d .stamp - frames) ++ (d .line ∷ plainLines (d .stamp) dues)
+abbrev pub unrolledLines : ℕ → List DueLine → List (List ℕ)
+unrolledLines frames [] = []
+unrolledLines frames (d ∷ dues) = gapLines (d .stamp - frames) ++ (d .line ∷ unrolledLines (d .stamp) dues)
 
 -- the frame of the last stamp
 abbrev pub lastLines : Clockwork → List (List ℕ)
 lastLines clock = cond (ltb 0 (clock .lines)) (clockLine 1 ∷ []) []
 
 abbrev pub allLines : Score → List (List ℕ)
-allLines s = plainLines 0 (s .dues) ++ lastLines (s .clock)
+allLines s = unrolledLines 0 (s .dues) ++ lastLines (s .clock)
 
 abbrev pub plainLog : List ℕ → List ℕ
 plainLog input = half (allLines (score input))
@@ -93,7 +93,7 @@ closing w clock (stop number why) = badLine number why
 -- the lines that are written out and not played yet, and the rest of a log behind so many frames
 abbrev pub leftText : World → List (List ℕ) → ℕ → Score → List ℕ
 leftText w waiting frames s =
-    let lines = waiting ++ plainLines frames (s .dues) in
+    let lines = waiting ++ unrolledLines frames (s .dues) in
     sounded w lines ++ closing (played w lines) (s .clock) (s .end)
 
 abbrev pub timedText : List ℕ → List ℕ
