@@ -12,12 +12,18 @@ readable_files() {
     done
 }
 
+# Whether progress is shown: to a terminal that has not the program's output too.
+shows_progress() { [ -t 2 ] && [ ! -t 3 ]; }
+
 # Of what a program prints, the line that tells how it ended. What s3w2-save and sqv4-make print otherwise may hold any bytes, so they are
 # looked at from the front: a state has its head within its last 189,648 bytes, and a file begins with its name.
 closing_line() {
-    case $crate in
-    s3w2_save) tail -c 200000 | LC_ALL=C sed -n -e '/^S3W2,/{s/.*/state/p;q}' -e '$p' ;;
-    sqv4_make) { head -c 40 | LC_ALL=C sed -n -e '1s/^SQV4.*/file/' -e '1p'; cat > /dev/null; } ;;
+    local seen=no
+    ! shows_progress || case $crate in s3w2_log | s3w2_save | s3w2_load) seen=yes ;; esac
+    case $seen:$crate in
+    yes:*) LC_ALL=C awk -v mode=lines -v shows=1 -v name="$command" -f "$root/bin/lib/progress.awk" ;;
+    *:s3w2_save) tail -c 200000 | LC_ALL=C sed -n -e '/^S3W2,/{s/.*/state/p;q}' -e '$p' ;;
+    *:sqv4_make) { head -c 40 | LC_ALL=C sed -n -e '1s/^SQV4.*/file/' -e '1p'; cat > /dev/null; } ;;
     *) tail -c 300 | tail -n 1 ;;
     esac | LC_ALL=C tr -cd ' -~\n'
 }
@@ -65,7 +71,7 @@ open_output() {
 open_input() {
     shown=()
     case $usage in
-    *FILE*) ;;
+    *FILE* | *' LOG.. '*) ;;
     *) exec 4< /dev/null; return ;;
     esac
     if [ ${#files[@]} -gt 0 ] && [ "${files[*]}" != - ]; then
@@ -122,13 +128,8 @@ run() {
     ended
 }
 
-# Tells from what is known of a run how it ended.
-ended() {
-    [ -z "$unread" ] || cannot "the input cannot be read"
-    if [ "$passed" != 0 ]; then
-        [ "$reason" = 'Broken pipe' ] || cannot "the output cannot be written${reason:+ ($reason)}"
-        exit 2
-    fi
+# Tells of a program that did not come to its end.
+by_status() {
     case $status in
     0) ;;
     139) cannot "it was ended by signal 11 (SEGV), as a program is that runs out of stack: ulimit -s is $(ulimit -s) here," \
@@ -137,6 +138,16 @@ ended() {
     *) [ "$status" -le 128 ] || cannot "it was ended by signal $((status - 128)) ($(kill -l $((status - 128))))"
        cannot "it ended with status $status" ;;
     esac
+}
+
+# Tells from what is known of a run how it ended.
+ended() {
+    [ -z "$unread" ] || cannot "the input cannot be read"
+    if [ "$passed" != 0 ]; then
+        [ "$reason" = 'Broken pipe' ] || cannot "the output cannot be written${reason:+ ($reason)}"
+        exit 2
+    fi
+    by_status
     case $closing in
     bad,* | refused,* | 'too long')
         say "$(refusal "$closing")"
