@@ -58,7 +58,7 @@ pub(crate) fn call_count(kinds: &[u8], addresses: &[u32], values: &[u8]) -> usiz
 }
 
 // The frames that a call clocks.
-fn clocked_by(kind: u8, address: u32) -> usize
+pub fn clocked_by(kind: u8, address: u32) -> usize
     ensures result { λ r. ⌜ r ≡ clockedAs (askedOf kind) address ⌝ }
     ensures { λ r. ⌜ r < 2 ^ 32 ⌝ }
 {

@@ -5,6 +5,7 @@ mod loops;
 mod moves;
 mod single;
 
+pub use asking::clocked_by;
 pub use asking::fills;
 pub use lists::play;
 pub use loops::run;

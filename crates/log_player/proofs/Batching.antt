@@ -82,24 +82,6 @@ pub call-few : (text : List ℕ) (line : Line) (made : ListedCall) {n : ℕ} →
 call-few text line made e l m =
     subst (λ (k : ℕ). k ≤ 1000) (sym (m ∙ ap (λ (x : ListedCall). clockedAs (askedOf (x .kind)) (x .address)) (e ∙ ap listedCall l))) (few-frames (parsedLine text) (line-fits text))
 
--- ---- the frames of a call: only a clock has any
-pub clocks-all : (kind address : ℕ) → kind ≡ 4 → address ≡ clockedAs (askedOf kind) address
-unfolding askedOf
-clocks-all kind address e = rw e
-
-pub clocks-none : (kind address : ℕ) → (kind ≡ 4 → ⊥) → 0 ≡ clockedAs (askedOf kind) address
-unfolding askedOf
-clocks-none kind address h =
-    rw (ne-eqb kind 4 h) (go (eqb kind writeRegisterKind) (eqb kind writePcmRamKind) (eqb kind readRegisterKind) (eqb kind peekRegisterKind) (eqb kind setVersionKind))
-  where
-    go : (a b c d e : Bool) → 0 ≡ clockedAs (cond a asked.WriteRegister (cond b asked.WritePcmRam (cond c asked.Look (cond d asked.Look (cond e asked.SetVersion asked.Nothing))))) address
-    go true b c d e = refl
-    go false true c d e = refl
-    go false false true d e = refl
-    go false false false true e = refl
-    go false false false false true = refl
-    go false false false false false = refl
-
 -- ---- what a call shows
 pub shown-read : (kind address value : ℕ) (left right : List ℤ) → kind ≡ 2 → readBackLine 82 address value ≡ shownLine kind address value left right
 unfolding shownLine askedOf

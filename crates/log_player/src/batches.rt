@@ -3,7 +3,7 @@ ghost use mathlib.Core.Path.{_≡_};
 ghost use Prim.Native.Nat.{_+_, _*_, _≤_, _<_, _^_, min};
 ghost use lib.ListN.{length};
 ghost use Rattle.decimal.specs.Written.{Put};
-ghost use Rattle.frames.specs.Listing.{askedOf, clockedAs, framesAsked};
+ghost use Rattle.frames.specs.Listing.{framesAsked};
 ghost use Rattle.log_player.specs.Worlds.{world};
 ghost use Rattle.log_player.specs.Runs.{refusedBy};
 ghost use Rattle.log_player.specs.Batches.{call, listedCall, shownLine, shown, Short, Gathers, NoLine, Silent, PlaysLines, Batches};
@@ -20,6 +20,7 @@ use frames::READ_REGISTER;
 use frames::SET_VERSION;
 use frames::WRITE_PCM_RAM;
 use frames::WRITE_REGISTER;
+use frames::clocked_by;
 use log::Line;
 use sizes::STEMS;
 
@@ -44,8 +45,8 @@ fn call(kind: u8, address: u32, value: u8) -> ListedCall
     }
 }
 
-// The call that a line makes.
-fn listed_call(line: Line) -> ListedCall
+// The call that a line makes; a bad line makes none.
+pub fn listed_call(line: Line) -> ListedCall
     ensures { λ r. ⌜ r ≡ listedCall line ⌝ }
 {
     match line {
@@ -58,17 +59,6 @@ fn listed_call(line: Line) -> ListedCall
         Line::Malformed => call(NO_CALL, 0, 0),
         Line::Unmapped => call(NO_CALL, 0, 0),
     }
-}
-
-// The frames that a call clocks.
-fn clocked_by(kind: u8, address: u32) -> usize
-    ensures result { λ r. ⌜ r ≡ clockedAs (askedOf kind) address ⌝ }
-    ensures { λ r. ⌜ r < 2 ^ 32 ⌝ }
-{
-    if kind == CLOCK {
-        return address as usize;
-    }
-    0
 }
 
 // The lines from `from` on as calls: at most `most` lines and 1,000 frames, and each but the first begins where at most `budget`

@@ -4,6 +4,7 @@ mod playing;
 mod runs;
 mod steps;
 
+pub use batches::listed_call;
 use s3w2::Answer;
 use s3w2::Chip;
 pub use steps::line_end;
@@ -40,8 +41,8 @@ pub struct Ran {
     pub end: usize,
 }
 
-// A line as the call of a list that it makes.
-pub(crate) struct ListedCall {
+// A line as the call of a list that it makes: its kind is one of crate `frames`' numbers.
+pub struct ListedCall {
     pub kind: u8,
     pub address: u32,
     pub value: u8,

@@ -5,11 +5,16 @@ use Prim.Native.Nat.{ℕ, zero, suc, _+_}
 use lib.Dec.{leb}
 use lib.ListN.{length, drop, set}
 use Rattle.log.specs.Lines.{parsedLine}
+use Rattle.frames.specs.Listing.{askedOf, clockedAs}
+use Rattle.log_player.specs.declared.ListedCall.{ListedCall}
+use Rattle.log_player.specs.Batches.{listedCall}
 use Rattle.log_player.specs.Steps.{firstLine, nextOf}
 use Rattle.log_player.specs.Runs.{isLine}
-use Rattle.log_sound.specs.declared.Call.{Call}
 use Rattle.log_sound.specs.declared.Gathered.{Gathered}
-use Rattle.log_sound.specs.Calls.{callOf, framesOf}
+
+-- the frames that a call clocks
+unfoldable pub framesOf : ListedCall → ℕ
+framesOf call = clockedAs (askedOf (call .kind)) (call .address)
 
 -- so many lines taken, which clock so many frames, the place behind them, and the lists of their calls
 pub record Gathering : Type 0 where
@@ -27,8 +32,8 @@ module _ (input : List ℕ) (room : ℕ) where
   abbrev pub lineThere : Gathering → List ℕ
   lineThere g = firstLine (drop (g .from) input)
 
-  abbrev pub callThere : Gathering → Call
-  callThere g = callOf (parsedLine (lineThere g))
+  abbrev pub callThere : Gathering → ListedCall
+  callThere g = listedCall (parsedLine (lineThere g))
 
   -- whether the line there is taken: it is whole, it is not bad, and there is room for its frames
   unfoldable pub takes : Gathering → Bool

@@ -5,10 +5,10 @@ ghost use lib.ListN.{drop, replicate};
 ghost use Rattle.log_player.specs.Steps.{nextOf};
 ghost use Rattle.log_sound.specs.Gathering.{listFrom, gatheredAs, toldOf};
 use crate::Gathered;
-use crate::calls::call_of;
-use crate::calls::frames_of;
+use frames::clocked_by;
 use log_player::Next;
 use log_player::line_end;
+use log_player::listed_call;
 
 // What an input holds at a place: a line that can be played, no whole line, or a bad one. No well-formed line has more than 16
 // bytes, so a rest that is longer and has no byte 10 is malformed.
@@ -77,8 +77,8 @@ pub(crate) fn gather(
         if line.number() != 0 {
             return Gathered::of(count, frames, place);
         }
-        let call = call_of(line);
-        let more = frames_of(call);
+        let call = listed_call(line);
+        let more = clocked_by(call.kind, call.address);
         if room - frames < more {
             return Gathered::of(count, frames, place);
         }

@@ -1,5 +1,4 @@
 // A log's sound: its lines as lists of calls, each list played by the chip at once, with the stems of its frames.
-mod calls;
 mod gathering;
 mod playing;
 
@@ -8,13 +7,6 @@ pub use gathering::pass;
 pub use playing::play;
 use s3w2::Answer;
 use s3w2::Chip;
-
-// The call that a line asks for: its kind is one of the numbers of crate `frames`.
-pub(crate) struct Call {
-    pub kind: u8,
-    pub address: u32,
-    pub value: u8,
-}
 
 // Lines that were taken as calls: how many, how many frames they clock, and the place behind them.
 pub struct Gathered {

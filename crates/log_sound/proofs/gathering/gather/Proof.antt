@@ -1,6 +1,6 @@
 use Rattle.log_sound.proofs.Taking.{not-whole, is-bad, is-whole, not-less, not-taken, no-room, has-room, none-taken, all-taken, taken-on, leaves}
-use Rattle.log_sound.specs.Gathering.{gathering, gathered, listFrom}
-use Rattle.log_sound.specs.Calls.{callOf}
+use Rattle.log_sound.specs.Gathering.{framesOf, gathering, gathered, listFrom}
+use Rattle.log_player.specs.Batches.{listedCall}
 use Rattle.log_player.proofs.Stops.{next-bad, next-line, line-part, good-by}
 use Rattle.log.specs.Lines.{parsedLine}
 use lib.ListN.{length}
@@ -10,14 +10,6 @@ use mathlib.Core.Path.{_≡_, refl, sym, ap, _∙_}
 use borrow.Author.Needs.{needs}
 use Rattle.log_sound.proofs.gathering.gather.Statement.{statement}
 use Rattle.log_sound.proofs.gathering.gather.Tie as tie
-use Rattle.log_sound.proofs.gathering.gather.Reads as reads
-use Rattle.log_sound.proofs.gathering.gather.Lts as lts
-use Rattle.log.proofs.Line.number.Reads as number-reads
-use Rattle.log.proofs.parse.Reads as parse-reads
-use Rattle.log_player.proofs.line_end.Reads as line-end-reads
-use Rattle.log_sound.proofs.Gathered.of.Reads as of-reads
-use Rattle.log_sound.proofs.calls.call_of.Reads as call-of-reads
-use Rattle.log_sound.proofs.calls.frames_of.Reads as frames-of-reads
 
 abbrev Inv-loop : tie.InvT-loop
 Inv-loop input from room kinds₀ addresses₀ values₀ count₀ frames₀ place₀ kinds addresses values count frames place =
@@ -60,11 +52,11 @@ returns-2 : tie.Need-returns-2 Inv-loop μ-loop
 returns-2 c = let l : c .before .before .before .before .before .before .before .before .loop .place < length (c .before .before .before .before .before .before .before .before .before .before .args .input .now) = omega (arith, c .before .before .before .before .before .before .line-end .ensures, c .before .before .before .before .before .if1 .left) in
     leaves _ _ (gathering (c .before .before .before .before .before .before .before .before .loop .count) (c .before .before .before .before .before .before .before .before .loop .frames) (c .before .before .before .before .before .before .before .before .loop .place) (c .before .before .before .before .before .before .before .before .loop .kinds) (c .before .before .before .before .before .before .before .before .loop .addresses) (c .before .before .before .before .before .before .before .before .loop .values)) _ (none-taken (c .before .before .before .before .before .before .before .before .before .before .args .input .now) (c .before .before .before .before .before .before .before .before .before .before .args .room) (256 - c .before .before .before .before .before .before .before .before .loop .count) _ _ (not-taken (c .before .before .before .before .before .before .before .before .before .before .args .input .now) (c .before .before .before .before .before .before .before .before .before .before .args .room) (gathering (c .before .before .before .before .before .before .before .before .loop .count) (c .before .before .before .before .before .before .before .before .loop .frames) (c .before .before .before .before .before .before .before .before .loop .place) (c .before .before .before .before .before .before .before .before .loop .kinds) (c .before .before .before .before .before .before .before .before .loop .addresses) (c .before .before .before .before .before .before .before .before .loop .values)) (is-bad _ _ (next-bad (c .before .before .before .before .before .before .before .before .before .before .args .input .now) (c .before .before .before .before .before .before .before .before .loop .place) _ (c .before .before .before .before .before .before .line-end .ensures) _ _ l (λ e. not-less e (c .before .before .before .before .before .if1 .left)) (c .before .before .before .parse .ensures ∙ ap parsedLine (line-part (c .before .before .before .before .before .before .before .before .before .before .args .input .now) (c .before .before .before .before .before .before .before .before .loop .place) _ (c .before .before .before .before .before .before .line-end .ensures))) (c .before .before .number .ensures) (c .before .if2 .taken)))) (c .before .before .before .before .before .before .before .before .loop .inv .2)) (c .of2 .ensures) (c .before .before .before .before .before .before .before .before .loop .inv .0) (c .before .before .before .before .before .before .before .before .loop .inv .1)
 
-call-of-requires : tie.Need-call-of-requires Inv-loop μ-loop
-call-of-requires c κs = search needs
+listed-call-requires : tie.Need-listed-call-requires Inv-loop μ-loop
+listed-call-requires c κs = search needs
 
-frames-of-requires : tie.Need-frames-of-requires Inv-loop μ-loop
-frames-of-requires c κs = search needs
+clocked-by-requires : tie.Need-clocked-by-requires Inv-loop μ-loop
+clocked-by-requires c κs = search needs
 
 sub-if3 : tie.Need-sub-if3 Inv-loop μ-loop
 sub-if3 c = search needs
@@ -73,9 +65,10 @@ of-requires-3 : tie.Need-of-requires-3 Inv-loop μ-loop
 of-requires-3 c κs = search needs
 
 returns-3 : tie.Need-returns-3 Inv-loop μ-loop
+unfolding framesOf
 returns-3 c = let l : c .before .before .before .before .before .before .before .before .before .before .before .loop .place < length (c .before .before .before .before .before .before .before .before .before .before .before .before .before .args .input .now) = omega (arith, c .before .before .before .before .before .before .before .before .before .line-end .ensures, c .before .before .before .before .before .before .before .before .if1 .left) in
     let w = is-whole _ _ (next-line (c .before .before .before .before .before .before .before .before .before .before .before .before .before .args .input .now) (c .before .before .before .before .before .before .before .before .before .before .before .loop .place) _ (c .before .before .before .before .before .before .before .before .before .line-end .ensures) _ l (λ e. not-less e (c .before .before .before .before .before .before .before .before .if1 .left)) (c .before .before .before .before .before .before .parse .ensures ∙ ap parsedLine (line-part (c .before .before .before .before .before .before .before .before .before .before .before .before .before .args .input .now) (c .before .before .before .before .before .before .before .before .before .before .before .loop .place) _ (c .before .before .before .before .before .before .before .before .before .line-end .ensures))) (good-by _ (c .before .before .before .before .before .before .parse .result) (c .before .before .before .before .before .number .ensures) (c .before .before .before .before .if2 .left))) in
-    leaves _ _ (gathering (c .before .before .before .before .before .before .before .before .before .before .before .loop .count) (c .before .before .before .before .before .before .before .before .before .before .before .loop .frames) (c .before .before .before .before .before .before .before .before .before .before .before .loop .place) (c .before .before .before .before .before .before .before .before .before .before .before .loop .kinds) (c .before .before .before .before .before .before .before .before .before .before .before .loop .addresses) (c .before .before .before .before .before .before .before .before .before .before .before .loop .values)) _ (none-taken (c .before .before .before .before .before .before .before .before .before .before .before .before .before .args .input .now) (c .before .before .before .before .before .before .before .before .before .before .before .before .before .args .room) (256 - c .before .before .before .before .before .before .before .before .before .before .before .loop .count) _ _ (no-room (c .before .before .before .before .before .before .before .before .before .before .before .before .before .args .input .now) (c .before .before .before .before .before .before .before .before .before .before .before .before .before .args .room) (gathering (c .before .before .before .before .before .before .before .before .before .before .before .loop .count) (c .before .before .before .before .before .before .before .before .before .before .before .loop .frames) (c .before .before .before .before .before .before .before .before .before .before .before .loop .place) (c .before .before .before .before .before .before .before .before .before .before .before .loop .kinds) (c .before .before .before .before .before .before .before .before .before .before .before .loop .addresses) (c .before .before .before .before .before .before .before .before .before .before .before .loop .values)) _ _ (c .before .before .before .call-of .ensures ∙ ap callOf (c .before .before .before .before .before .before .parse .ensures ∙ ap parsedLine (line-part (c .before .before .before .before .before .before .before .before .before .before .before .before .before .args .input .now) (c .before .before .before .before .before .before .before .before .before .before .before .loop .place) _ (c .before .before .before .before .before .before .before .before .before .line-end .ensures)))) (c .before .before .frames-of .ensures) w (omega arith)) (c .before .before .before .before .before .before .before .before .before .before .before .loop .inv .2)) (c .of3 .ensures) (c .before .before .before .before .before .before .before .before .before .before .before .loop .inv .0) (c .before .before .before .before .before .before .before .before .before .before .before .loop .inv .1)
+    leaves _ _ (gathering (c .before .before .before .before .before .before .before .before .before .before .before .loop .count) (c .before .before .before .before .before .before .before .before .before .before .before .loop .frames) (c .before .before .before .before .before .before .before .before .before .before .before .loop .place) (c .before .before .before .before .before .before .before .before .before .before .before .loop .kinds) (c .before .before .before .before .before .before .before .before .before .before .before .loop .addresses) (c .before .before .before .before .before .before .before .before .before .before .before .loop .values)) _ (none-taken (c .before .before .before .before .before .before .before .before .before .before .before .before .before .args .input .now) (c .before .before .before .before .before .before .before .before .before .before .before .before .before .args .room) (256 - c .before .before .before .before .before .before .before .before .before .before .before .loop .count) _ _ (no-room (c .before .before .before .before .before .before .before .before .before .before .before .before .before .args .input .now) (c .before .before .before .before .before .before .before .before .before .before .before .before .before .args .room) (gathering (c .before .before .before .before .before .before .before .before .before .before .before .loop .count) (c .before .before .before .before .before .before .before .before .before .before .before .loop .frames) (c .before .before .before .before .before .before .before .before .before .before .before .loop .place) (c .before .before .before .before .before .before .before .before .before .before .before .loop .kinds) (c .before .before .before .before .before .before .before .before .before .before .before .loop .addresses) (c .before .before .before .before .before .before .before .before .before .before .before .loop .values)) _ _ (c .before .before .before .listed-call .ensures ∙ ap listedCall (c .before .before .before .before .before .before .parse .ensures ∙ ap parsedLine (line-part (c .before .before .before .before .before .before .before .before .before .before .before .before .before .args .input .now) (c .before .before .before .before .before .before .before .before .before .before .before .loop .place) _ (c .before .before .before .before .before .before .before .before .before .line-end .ensures)))) (c .before .before .clocked-by .ensures .0) w (omega arith)) (c .before .before .before .before .before .before .before .before .before .before .before .loop .inv .2)) (c .of3 .ensures) (c .before .before .before .before .before .before .before .before .before .before .before .loop .inv .0) (c .before .before .before .before .before .before .before .before .before .before .before .loop .inv .1)
 
 element-write-kinds : tie.Need-element-write-kinds Inv-loop μ-loop
 element-write-kinds c = search needs
@@ -102,10 +95,11 @@ loop-less : tie.Need-loop-less Inv-loop μ-loop
 loop-less c = search needs
 
 loop-again : tie.Need-loop-again Inv-loop μ-loop
+unfolding framesOf
 loop-again c = let l : c .before .before .before .before .before .before .before .before .before .before .loop .place < length (c .before .before .before .before .before .before .before .before .before .before .before .before .args .input .now) = omega (arith, c .before .before .before .before .before .before .before .before .line-end .ensures, c .before .before .before .before .before .before .before .if1 .left) in
     let w = is-whole _ _ (next-line (c .before .before .before .before .before .before .before .before .before .before .before .before .args .input .now) (c .before .before .before .before .before .before .before .before .before .before .loop .place) _ (c .before .before .before .before .before .before .before .before .line-end .ensures) _ l (λ e. not-less e (c .before .before .before .before .before .before .before .if1 .left)) (c .before .before .before .before .before .parse .ensures ∙ ap parsedLine (line-part (c .before .before .before .before .before .before .before .before .before .before .before .before .args .input .now) (c .before .before .before .before .before .before .before .before .before .before .loop .place) _ (c .before .before .before .before .before .before .before .before .line-end .ensures))) (good-by _ (c .before .before .before .before .before .parse .result) (c .before .before .before .before .number .ensures) (c .before .before .before .if2 .left))) in
-    let call = c .before .before .call-of .ensures ∙ ap callOf (c .before .before .before .before .before .parse .ensures ∙ ap parsedLine (line-part (c .before .before .before .before .before .before .before .before .before .before .before .before .args .input .now) (c .before .before .before .before .before .before .before .before .before .before .loop .place) _ (c .before .before .before .before .before .before .before .before .line-end .ensures))) in
-    (omega arith, omega arith, taken-on (c .before .before .before .before .before .before .before .before .before .before .before .before .args .input .now) (c .before .before .before .before .before .before .before .before .before .before .before .before .args .room) _ _ (gathering (c .before .before .before .before .before .before .before .before .before .before .loop .count) (c .before .before .before .before .before .before .before .before .before .before .loop .frames) (c .before .before .before .before .before .before .before .before .before .before .loop .place) (c .before .before .before .before .before .before .before .before .before .before .loop .kinds) (c .before .before .before .before .before .before .before .before .before .before .loop .addresses) (c .before .before .before .before .before .before .before .before .before .before .loop .values)) _ _ _ _ (c .before .before .before .before .before .before .before .before .line-end .ensures) call (c .before .frames-of .ensures) (omega arith) (has-room (c .before .before .before .before .before .before .before .before .before .before .before .before .args .input .now) (c .before .before .before .before .before .before .before .before .before .before .before .before .args .room) (gathering (c .before .before .before .before .before .before .before .before .before .before .loop .count) (c .before .before .before .before .before .before .before .before .before .before .loop .frames) (c .before .before .before .before .before .before .before .before .before .before .loop .place) (c .before .before .before .before .before .before .before .before .before .before .loop .kinds) (c .before .before .before .before .before .before .before .before .before .before .loop .addresses) (c .before .before .before .before .before .before .before .before .before .before .loop .values)) _ _ call (c .before .frames-of .ensures) w (omega arith)) (c .before .before .before .before .before .before .before .before .before .before .loop .inv .2))
+    let call = c .before .before .listed-call .ensures ∙ ap listedCall (c .before .before .before .before .before .parse .ensures ∙ ap parsedLine (line-part (c .before .before .before .before .before .before .before .before .before .before .before .before .args .input .now) (c .before .before .before .before .before .before .before .before .before .before .loop .place) _ (c .before .before .before .before .before .before .before .before .line-end .ensures))) in
+    (omega arith, omega arith, taken-on (c .before .before .before .before .before .before .before .before .before .before .before .before .args .input .now) (c .before .before .before .before .before .before .before .before .before .before .before .before .args .room) _ _ (gathering (c .before .before .before .before .before .before .before .before .before .before .loop .count) (c .before .before .before .before .before .before .before .before .before .before .loop .frames) (c .before .before .before .before .before .before .before .before .before .before .loop .place) (c .before .before .before .before .before .before .before .before .before .before .loop .kinds) (c .before .before .before .before .before .before .before .before .before .before .loop .addresses) (c .before .before .before .before .before .before .before .before .before .before .loop .values)) _ _ _ _ (c .before .before .before .before .before .before .before .before .line-end .ensures) call (c .before .clocked-by .ensures .0) (omega arith) (has-room (c .before .before .before .before .before .before .before .before .before .before .before .before .args .input .now) (c .before .before .before .before .before .before .before .before .before .before .before .before .args .room) (gathering (c .before .before .before .before .before .before .before .before .before .before .loop .count) (c .before .before .before .before .before .before .before .before .before .before .loop .frames) (c .before .before .before .before .before .before .before .before .before .before .loop .place) (c .before .before .before .before .before .before .before .before .before .before .loop .kinds) (c .before .before .before .before .before .before .before .before .before .before .loop .addresses) (c .before .before .before .before .before .before .before .before .before .before .loop .values)) _ _ call (c .before .clocked-by .ensures .0) w (omega arith)) (c .before .before .before .before .before .before .before .before .before .before .loop .inv .2))
 
 of-requires-4 : tie.Need-of-requires-4 Inv-loop μ-loop
 of-requires-4 c κs = search needs
@@ -130,8 +124,8 @@ gather-spec =
     number-requires
     of-requires-2
     returns-2
-    call-of-requires
-    frames-of-requires
+    listed-call-requires
+    clocked-by-requires
     sub-if3
     of-requires-3
     returns-3
