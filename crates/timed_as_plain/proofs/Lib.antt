@@ -5,3 +5,5 @@ pub mod Plays
 pub mod Turned
 pub mod Printed
 pub mod AsPlain
+pub mod Orders
+pub mod Splits

@@ -1,2 +1,3 @@
 pub mod Scores
 pub mod Prints
+pub mod Frames
