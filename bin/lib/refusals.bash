@@ -102,7 +102,8 @@ state_line_at_fault() { # FIELD
         }
         function isLength(value,    n) { for (n = 256; n <= 16777216; n *= 2) if (value == n "") return 1; return 0 }
         function fault(    top) {
-            if (line == 0) found = at == 1 ? $1 != "S3W2" : at == 2 ? wrong($2, 4) : at == 3 ? NF >= 3 && !isLength($3) : NF >= 4
+            if (line > 0 && at == 1) found = $1 != line - 1 ""
+            else if (line == 0) found = at == 1 ? $1 != "S3W2" : at == 2 ? wrong($2, 4) : at == 3 ? NF >= 3 && !isLength($3) : NF >= 4
             else {
                 top = at > 282 ? "s" : at == 282 ? 2048 : at > 25 ? 255 : at == 3 && version < 2 ? 4 : most[at]
                 found = NF < at ? at <= 282 + $282 : at > 282 + $282 || wrong($at, top)
@@ -122,7 +123,7 @@ state_field() { # FIELD
         'a last sample from -32768 to 32767' 'a slew from 0 to 65280' 'a held sample from -32768 to 32767' 'a hold from 0 to 65535'
         'a sub-tick from 0 to 3' 'a latch byte from 0 to 255')
     local head=('S3W2' 'a version from 0 to 4' 'a RAM length, a power of two from 256 to 16777216' 'the end of the line')
-    local field=$1 voice
+    local field=$1 voice where
     if [ "$field" -le 25 ]; then voice=${names[field - 1]}
     elif [ "$field" -le 281 ]; then voice="wavetable byte $((field - 26)), from 0 to 255"
     elif [ "$field" -eq 282 ]; then voice='a queue count from 0 to 2048'
@@ -130,18 +131,16 @@ state_field() { # FIELD
     fi
     local fault line
     mapfile -t fault < <(state_line_at_fault "$field")
-    if [ ${#fault[@]} -eq 3 ]; then
-        line="field $field of its line $((fault[0] + 1)), "
-        if [ "${fault[0]}" -eq 0 ]; then line+="the head"; voice=${head[field - 1]-}; else line+="a voice line"; fi
-        case ${fault[1]} in
-        short) echo "$line: it is missing, expected $voice" ;;
-        *) echo "$line: it is \"${fault[2]}\", expected $voice" ;;
-        esac
-    elif [ "$field" -le 4 ]; then
-        echo "field $field of its first bad line: expected ${head[field - 1]} where that is the head, $voice where it is a voice line"
-    else
-        echo "field $field of its first bad voice line: expected $voice"
-    fi
+    line=${state_line:-$((${fault[0]--1} + 1))}
+    if [ "$line" = 1 ]; then voice=${head[field - 1]-}; where='the head'; else where='a voice line'; fi
+    if [ "$line" -gt 1 ] && [ "$field" = 1 ]; then voice="$((line - 2)), as voice lines run from 0 up"; fi
+    where="field $field of its line $line, $where"
+    case ${fault[1]-unknown}:$line in
+    short:*) echo "$where: it is missing, expected $voice" ;;
+    there:*) echo "$where: it is \"${fault[2]}\", expected $voice" ;;
+    unknown:0) echo "field $field of its first bad line" ;;
+    *) echo "$where: expected $voice" ;;
+    esac
 }
 
 # A refusal of s3w2-load: of the state, or of a line of the log behind it.
@@ -149,13 +148,10 @@ load_refusal() { # NUMBER [VALUE]
     case $1,${2-} in
     1,) echo "the state is refused (1): fewer than 65536 bytes of RAM follow its voice lines" ;;
     22,) echo "the state is refused (22): its head is that of a RAM of another length than 65536" ;;
-    23,) echo "the state is refused (23): a voice line under V1 or V2 has a held sample, hold, sub-tick, latch or queue count that is not 0" ;;
+    23,) echo "the state is refused (23)${state_line:+ at its line $state_line}: a voice line under V1 or V2 has a held sample, hold, sub-tick, latch or queue count that is not 0" ;;
     16,17 | 16,27)
-        # field 17 or 27 of the state, or line 16 of the log: the input tells, where it can be read again
-        if [ -n "$(state_line_at_fault "$2")" ]; then echo "the state is refused (16) at $(state_field "$2")"
-        elif [ ${#shown[@]} -gt 0 ]; then load_refusal '16 ' "$2"
-        else echo "refused: either the state, with 16 at $(state_field "$2"); or line 16 of the log behind it, with $2"
-        fi
+        # field 17 or 27 of the state, where it told the line; else line 16 of the log
+        if [ -n "$state_line" ]; then echo "the state is refused (16) at $(state_field "$2")"; else load_refusal '16 ' "$2"; fi
         ;;
     16,*) echo "the state is refused (16) at $(state_field "$2")" ;;
     *,17) echo "line ${1% } of the log behind the state is no line of a log (17)" ;;

@@ -15,14 +15,18 @@ readable_files() {
 # Whether progress is shown: to a terminal that has not the program's output too.
 shows_progress() { [ -t 2 ] && [ ! -t 3 ]; }
 
-# Of what a program prints, the line that tells how it ended. What s3w2-save and sqv4-make print otherwise may hold any bytes, so they are
-# looked at from the front: a state has its head within its last 189,648 bytes, and a file begins with its name.
+# Whether it ends with a state.
+saves() { [ "$crate" = s3w2_save ] || case " ${options[*]-} " in *' --save '*) ;; *) false ;; esac; }
+
+# Of what a program prints, the line that tells how it ended. States and what sqv4-make prints may hold any bytes, so they are looked at
+# from the front: a state has its head within its last 189,648 bytes, and a file begins with its name.
 closing_line() {
     local seen=no
+    ! saves || seen=state
     ! shows_progress || case $crate in s3w2_log | s3w2_save | s3w2_load) seen=yes ;; esac
     case $seen:$crate in
     yes:*) LC_ALL=C awk -v mode=lines -v shows=1 -v name="$command" -f "$root/bin/lib/progress.awk" ;;
-    *:s3w2_save) tail -c 200000 | LC_ALL=C sed -n -e '/^S3W2,/{s/.*/state/p;q}' -e '$p' ;;
+    state:*) tail -c 200000 | LC_ALL=C sed -n -e '/^S3W2,/{s/.*/state/p;q}' -e '$p' ;;
     *:sqv4_make) { head -c 40 | LC_ALL=C sed -n -e '1s/^SQV4.*/file/' -e '1p'; cat > /dev/null; } ;;
     *) tail -c 300 | tail -n 1 ;;
     esac | LC_ALL=C tr -cd ' -~\n'
@@ -90,13 +94,37 @@ open_input() {
     fi
 }
 
+# Descriptor 9 is where the program says what its output does not tell. s3w2-load tells there which line of a state it refused, which
+# belongs into the words of the refusal: what it says is kept, in a file without a name, and said at its end.
+open_words() {
+    local file
+    exec 9>&2
+    [ "$crate" = s3w2_load ] && file=$(mktemp 2>/dev/null) || return 0
+    exec 9> "$file" 10< "$file"
+    rm -f -- "$file"
+}
+
+# The line of the state that was refused; any other words go to standard error.
+state_line=''
+take_words() {
+    local line
+    { true <&10; } 2>/dev/null || return 0
+    while IFS= read -r line <&10; do
+        case $line in
+        's3w2-load: line '*' of the state') state_line=${line#s3w2-load: line }; state_line=${state_line%% *} ;;
+        *) printf '%s\n' "$line" >&2 ;;
+        esac
+    done
+    exec 10<&-
+}
+
 # Starts the program on one input, or on several FILEs one behind the other.
 start() {
     if [ ${#files[@]} -eq 0 ]; then
-        "$binary" "${options[@]}" <&4 >&7 3>&- 4<&- 7>&- 8<&- &
+        "$binary" "${options[@]}" <&4 >&7 2>&9 3>&- 4<&- 7>&- 8<&- 9>&- 10<&- &
     else
-        { cat -- "${files[@]}" <&4 || [ $? -gt 128 ] || kill -s USR1 $$; } 3>&- 7>&- 8<&- |
-            "$binary" "${options[@]}" >&7 3>&- 4<&- 7>&- 8<&- &
+        { cat -- "${files[@]}" <&4 || [ $? -gt 128 ] || kill -s USR1 $$; } 3>&- 7>&- 8<&- 9>&- 10<&- |
+            "$binary" "${options[@]}" >&7 2>&9 3>&- 4<&- 7>&- 8<&- 9>&- 10<&- &
     fi
     program=$!
 }
@@ -105,13 +133,14 @@ run() {
     local program status stopped='' unread='' line reason='' passed='' closing='' signal
     open_output
     open_input
-    coproc FILTER { hand_on; }
+    open_words
+    coproc FILTER { hand_on; } 9>&- 10<&-
     # the two ends of a coprocess are not handed on to what runs beside it, their copies are
     exec 7>&"${FILTER[1]}" 8<&"${FILTER[0]}" {FILTER[1]}>&- {FILTER[0]}<&-
     for signal in HUP INT TERM; do trap "stop $signal" "$signal"; done
     trap 'unread=yes' USR1
     start
-    exec 7>&- 3>&-
+    exec 7>&- 3>&- 9>&-
     {
         wait "$program"
         status=$?
@@ -125,6 +154,7 @@ run() {
         esac
     done
     [ -z "$stopped" ] || { trap - "$stopped"; kill -s "$stopped" $$; }
+    take_words
     ended
 }
 
@@ -155,7 +185,7 @@ ended() {
         ;;
     esac
     case $crate:$closing in
-    s3w2_log:peak,* | s3w2_timed:peak,* | s3w2_load:peak,* | s3w2_save:state | sqv4_make:file | sqv4_dump:?* | s3w2_notes:382,*) exit 0 ;;
+    s3w2_log:peak,* | s3w2_timed:peak,* | s3w2_load:peak,* | s3w2_load:state | s3w2_save:state | sqv4_make:file | sqv4_dump:?* | s3w2_notes:382,*) exit 0 ;;
     s3w2_log:* | s3w2_timed:* | s3w2_load:* | s3w2_save:* | sqv4_make:* | sqv4_dump:* | s3w2_notes:*)
         cannot "it stopped before its end, and what it printed is not whole" ;;
     esac

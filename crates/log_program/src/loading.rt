@@ -7,6 +7,7 @@ use crate::moving::written;
 use crate::playing::stopped;
 use log_player::Player;
 use log_state::Found;
+use program::say;
 use session::LineAnswer;
 
 // A state of which the lines before line k were read: the bytes of the input buffer from `from` to before `filled` follow them.
@@ -30,6 +31,15 @@ fn refused(program: Program, player: Player) -> Load {
     }
 }
 
+// Tells which line of the state was refused, the head being line 1.
+fn tell_line(k: usize, text: &mut [u8]) {
+    let number = std::num::wrapping_add_u64(k as u64, 1);
+    let end = decimal::put_natural(&mut *text, 0, number);
+    say(b"s3w2-load: line ");
+    say(num::part(text, 0, end));
+    say(b" of the state\n");
+}
+
 // Reads line k from a text that ends at `behind` in the input buffer.
 fn take(
     load: Load,
@@ -48,7 +58,8 @@ fn take(
     let answer = taken.answer;
     let LineAnswer::Done = answer else {
         let end = log_state::put_refusal(answer, &mut *text, 0);
-        written(program, text, end);
+        written(program, &*text, end);
+        tell_line(k, text);
         return refused(program, after);
     };
     Load {
