@@ -3,7 +3,6 @@ use mathlib.Core.Path.{_≡_, refl, sym, ap, ap₂, _∙_, subst}
 use mathlib.Core.Bool.{Bool, true, false, cond}
 use mathlib.Core.List.{List, [], _++_, append-assoc, append-nil}
 use Prim.Native.Nat.{ℕ, zero, suc, _+_, _*_, _-_, _≤_, _<_, min}
-use native.Mathlib.Decide.{decLt}
 use native.Mathlib.Numerals.{add-one}
 use native.Mathlib.Omega.{arith}
 use lib.Dec.{eqb, leb}
@@ -15,7 +14,6 @@ use Rattle.num.specs.Lists.{part}
 use Rattle.num.proofs.Choice.{never}
 use Rattle.decimal.specs.Written.{Put}
 use Rattle.decimal.proofs.Writing.{put-append, put-none}
-use Rattle.frames.specs.declared.Asked.{Asked}
 use Rattle.frames.specs.declared.Asked.the-variants as asked
 use Rattle.frames.specs.Listing.{writeRegisterKind, writePcmRamKind, readRegisterKind, peekRegisterKind, setVersionKind, askedOf, clockedAs, clockedBy, framesAsked}
 use Rattle.frames.proofs.Counts.{zero-add, frames-more, frames-within, grown}

@@ -2,14 +2,14 @@
 -- nothing.
 use mathlib.Core.Path.{_≡_, refl, sym, ap, ap₂, _∙_, subst}
 use mathlib.Core.Bool.{Bool, true, false, cond}
-use mathlib.Core.List.{List, [], _∷_, _++_}
+use mathlib.Core.List.{List, [], _∷_}
 use Prim.Native.Nat.{ℕ, zero, suc, _+_, _*_, _-_, _≤_, _<_, min}
 use native.Mathlib.Decide.{decLt}
 use native.Mathlib.Omega.{arith}
 use lib.Dec.{eqb}
-use lib.IntN.{ℤ, pos, natAbs, _+ℤ_}
-use lib.ListN.{length, length-set, length-take, length-drop, length-replicate, take, drop, getD, set, replicate, List·getD-eq-default}
-use lib.Seq.{sets, length-sets, getD-set-same, getD-set-other, getD-take, getD-drop, ext-getD}
+use lib.IntN.{ℤ, pos, _+ℤ_}
+use lib.ListN.{length, length-set, length-take, length-drop, length-replicate, drop, getD, set, replicate, List·getD-eq-default}
+use lib.Seq.{sets, length-sets, getD-set-same, getD-set-other, getD-take, getD-drop}
 use borrow.Author.Tests.{eq-eqb}
 use Rattle.sizes.specs.Sizes.{numChannels, queueBuffer, stemsPerFrame}
 use Rattle.num.specs.Lists.{part}
@@ -18,9 +18,9 @@ use Rattle.sides.specs.Sides.{sideSum, addedTo, wrapping}
 use Rattle.sides.proofs.Added.{added-length}
 use Rattle.frames.specs.declared.Asked.{Asked}
 use Rattle.frames.specs.declared.Asked.the-variants as asked
-use Rattle.frames.specs.Listing.{readRegisterKind, askedOf, clockedAs, framesAsked}
+use Rattle.frames.specs.Listing.{readRegisterKind, clockedAs}
 use Rattle.frames.specs.Turning.{Turns, frames}
-use Rattle.frames.proofs.Counts.{zero-add, frames-within}
+use Rattle.frames.proofs.Counts.{zero-add}
 use Rattle.frames.proofs.Framing.{frames-long}
 use Rattle.s3w2.specs.declared.Answer.{Answer}
 use Rattle.s3w2.specs.declared.Answer.the-variants.{Ended}
@@ -32,14 +32,13 @@ use Rattle.s3w2.specs.Chips.{withCore}
 use Rattle.s3w2.specs.Registers.{readRegisterCalled, peekRegisterAnswer}
 use Rattle.s3w2.specs.Sound.{framedEnded, clockCalled, clockStems}
 use Rattle.s3w2.specs.Mixing.{Mix, mix, mixed, mixedSides, mixedAnswered, mixedLeft, mixedRight, mixedI32Called}
-use Rattle.s3w2.specs.Plays.{Playing, playing, shownBy, ownStems, clockPlayed, callPlayed, callsPlayed}
+use Rattle.s3w2.specs.Plays.{Playing, shownBy, ownStems, clockPlayed, callPlayed}
 use Rattle.s3w2.proofs.Chunks.{chunk, mixed-chunk}
 use Rattle.log.specs.declared.Line.the-variants.{Write, WriteRam, Read, Peek, Clock}
 use Rattle.log.specs.Texts.{frameLines, readBackLine, peakOf}
-use Rattle.log_player.specs.declared.Player.{Player}
 use Rattle.log_player.specs.Worlds.{World, world}
 use Rattle.log_player.specs.Applied.{leftSide, rightSide, clockedText, clockedPlayer, silent, Effect, effectOf}
-use Rattle.log_player.specs.Batches.{lineAs, lineOf, linesEffect, shownAs, shownLine, shown}
+use Rattle.log_player.specs.Batches.{lineAs, shownAs}
 use Rattle.log_player.proofs.Overs.{wraps-not, nothing, sideOf, handOf}
 
 -- ---- values put one after the other

@@ -1,5 +1,5 @@
 use borrow.Author.Needs.{needs}
-use mathlib.Core.Path.{refl, sym, ap}
+use mathlib.Core.Path.{refl, sym}
 use native.Mathlib.Omega.{arith}
 use lib.Seq.{length-take-le}
 use Rattle.log_player.proofs.Lines.{silent-buffers}

@@ -1,6 +1,5 @@
 use borrow.Author.Needs.{needs}
-use mathlib.Core.Path.{refl, sym, ap}
-use native.Mathlib.Omega.{arith}
+use mathlib.Core.Path.{refl, sym}
 use lib.Seq.{length-take-le}
 use Rattle.log_player.proofs.Lines.{silent-buffers}
 use Rattle.log_player.proofs.Player.play_many.Statement.{statement}

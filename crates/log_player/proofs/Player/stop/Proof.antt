@@ -1,6 +1,5 @@
 use borrow.Author.Needs.{needs}
 use mathlib.Core.Path.{ap, _∙_}
-use native.Mathlib.Omega.{arith}
 use lib.ListN.{drop}
 use Rattle.log.specs.Lines.{parsedLine}
 use Rattle.log_player.specs.Steps.{nextOf}

@@ -1,12 +1,10 @@
 use borrow.Author.Needs.{needs}
 use mathlib.Core.Path.{_≡_, refl, sym, ap, _∙_}
-use Prim.Native.Nat.{_+_, _-_, _≤_}
+use Prim.Native.Nat.{_+_, _-_}
 use native.Mathlib.Omega.{arith}
 use lib.ListN.{length, length-set}
 use Rattle.log.specs.Lines.{parsedLine, isBad}
-use Rattle.log.proofs.Bytes.{line-fits, FitLine}
 use Rattle.log_player.specs.declared.ListedCall.{ListedCall}
-use Rattle.log_player.specs.Steps.{firstLine}
 use Rattle.log_player.proofs.Stops.{line-part}
 use Rattle.log_player.proofs.Batching.{Gathering, gathering-none, gathering-ends, gathering-next, first-taken, first-fits, open-line, bad-line, bad-call, call-few}
 use Rattle.log_player.proofs.batches.gather.Statement.{statement}

@@ -1,9 +1,8 @@
 use borrow.Author.Needs.{needs}
-use mathlib.Core.Path.{_≡_, refl, sym, ap, _∙_, subst}
-use Prim.Native.Nat.{ℕ, _-_}
+use mathlib.Core.Path.{_≡_, refl, _∙_}
+use Prim.Native.Nat.{_-_}
 use native.Mathlib.Omega.{arith}
 use lib.ListN.{length}
-use Rattle.log_player.specs.Batches.{shown, Short}
 use Rattle.log_player.proofs.Batching.{Showing, showing-none, showing-room, showing-next, showing-all}
 use Rattle.log_player.proofs.batches.show.Statement.{statement}
 use Rattle.log_player.proofs.batches.show.Tie as tie

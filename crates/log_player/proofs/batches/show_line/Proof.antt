@@ -1,11 +1,5 @@
 use borrow.Author.Needs.{needs}
-use mathlib.Core.Path.{sym, subst}
-use Prim.Native.Nat.{_≤_, _+_, _*_, min}
-use mathlib.Core.List.{List}
-use Prim.Native.Nat.{ℕ}
 use native.Mathlib.Omega.{arith}
-use lib.ListN.{length}
-use Rattle.decimal.specs.Written.{Put}
 use Rattle.decimal.proofs.Writing.{put-none}
 use Rattle.log_player.proofs.Batching.{shown-read, shown-peek, shown-clock, shown-none, shows}
 use Rattle.log_player.proofs.batches.show_line.Statement.{statement}
