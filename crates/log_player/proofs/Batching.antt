@@ -28,7 +28,7 @@ use Rattle.log_player.specs.Worlds.{World}
 use Rattle.log_player.specs.Applied.{Effect, effectOf, afterLine, printed}
 use Rattle.log_player.specs.Steps.{firstLine, nextOf}
 use Rattle.log_player.specs.Runs.{spot, isLine, runFrom, refusedBy}
-use Rattle.log_player.specs.Batches.{listedCall, lineOf, linesEffect, mostPrinted, shownAs, shownLine, shown, Short, Gathers, NoLine, PlaysLines, Batches}
+use Rattle.log_player.specs.Batches.{listedCall, lineOf, linesEffect, mostPrinted, shownAs, shownLine, callsShown, Short, Gathers, NoLine, PlaysLines, Batches}
 use Rattle.log_player.proofs.Stops.{first-short, next-line}
 use Rattle.log_player.proofs.Spots.{plays-line, run-next}
 use Rattle.log_player.proofs.Rooms.{room-is}
@@ -319,17 +319,17 @@ module _ (input : List ℕ) (from most budget : ℕ) (kinds addresses values : L
 pub record Showing (kinds addresses values : List ℕ) (left right : List ℤ) (out : List ℕ) (at : ℕ) (mid : List ℕ) (end frame i : ℕ) : Type 0 where
   pub within : i ≤ length kinds
   pub is : frame ≡ framesAsked kinds addresses 0 i
-  pub put : Put out mid at (shown kinds addresses values left right i) end
+  pub put : Put out mid at (callsShown kinds addresses values left right i) end
   pub short : Short kinds addresses values left right i
 
 module _ (kinds addresses values : List ℕ) (left right : List ℤ) (out : List ℕ) (at : ℕ) where
   pub showing-none : (end : ℕ) → end ≡ min at (length out) → Showing kinds addresses values left right out at out end 0 0
-  unfolding framesAsked shown mostPrinted
+  unfolding framesAsked callsShown mostPrinted
   showing-none end e = record {
     within = omega arith;
     is = refl;
     put = put-none out at end e;
-    short = λ j h. let z : j ≡ 0 = omega arith in subst (λ (k : ℕ). length (shown kinds addresses values left right k) ≤ 17 * k + 16 * framesAsked kinds addresses 0 k) (sym z) (omega arith);
+    short = λ j h. let z : j ≡ 0 = omega arith in subst (λ (k : ℕ). length (callsShown kinds addresses values left right k) ≤ 17 * k + 16 * framesAsked kinds addresses 0 k) (sym z) (omega arith);
   }
 
   module _ (mid now : List ℕ) (end e frame to i x : ℕ) (g : Showing kinds addresses values left right out at mid end frame i) where
@@ -345,12 +345,12 @@ module _ (kinds addresses values : List ℕ) (left right : List ℤ) (out : List
         length (shownLine (getD kinds i 0) (getD addresses i 0) (getD values i 0) (take (to - frame) (drop frame left)) (take (to - frame) (drop frame right)))
         ≤ 17 + 16 * min (length (take (to - frame) (drop frame left))) (length (take (to - frame) (drop frame right))) →
         Showing kinds addresses values left right out at now e to (i + 1)
-    unfolding shown mostPrinted
+    unfolding callsShown mostPrinted
     showing-next h ex et rl rr t s = record {
       within = omega arith;
       is = et ∙ sym now-frames;
-      put = subst (λ (k : ℕ). Put out now at (shown kinds addresses values left right k) e) (sym (add-one i)) (put-append out mid now at end e (shown kinds addresses values left right i) (own (getD kinds i 0) (getD addresses i 0) (getD values i 0)) (g .put) (subst (λ (l : List ℕ). Put mid now end l e) is-own t));
-      short = λ j k. grown (λ (j : ℕ). length (shown kinds addresses values left right j) ≤ 17 * j + 16 * framesAsked kinds addresses 0 j) 0 (i + 1) (λ j z q. g .short j (omega arith)) last j (omega arith) (omega arith);
+      put = subst (λ (k : ℕ). Put out now at (callsShown kinds addresses values left right k) e) (sym (add-one i)) (put-append out mid now at end e (callsShown kinds addresses values left right i) (own (getD kinds i 0) (getD addresses i 0) (getD values i 0)) (g .put) (subst (λ (l : List ℕ). Put mid now end l e) is-own t));
+      short = λ j k. grown (λ (j : ℕ). length (callsShown kinds addresses values left right j) ≤ 17 * j + 16 * framesAsked kinds addresses 0 j) 0 (i + 1) (λ j z q. g .short j (omega arith)) last j (omega arith) (omega arith);
     }
       where
         clocked : clockedBy kinds addresses (0 + i) ≡ x
@@ -373,17 +373,17 @@ module _ (kinds addresses values : List ℕ) (left right : List ℤ) (out : List
         few : min (length (take (to - frame) (drop frame left))) (length (take (to - frame) (drop frame right))) ≤ x
         few = let q = length-take (to - frame) (drop frame left) in omega (arith, et, q)
 
-        last : length (shown kinds addresses values left right (i + 1)) ≤ 17 * (i + 1) + 16 * framesAsked kinds addresses 0 (i + 1)
+        last : length (callsShown kinds addresses values left right (i + 1)) ≤ 17 * (i + 1) + 16 * framesAsked kinds addresses 0 (i + 1)
         last =
-            subst (λ (k : ℕ). length (shown kinds addresses values left right k) ≤ 17 * (i + 1) + 16 * framesAsked kinds addresses 0 (i + 1)) (sym (add-one i))
-            (omega (arith, length-append (shown kinds addresses values left right i) (own (getD kinds i 0) (getD addresses i 0) (getD values i 0)), g .short i (omega arith), s, few, ap length is-own, now-frames, g .is))
+            subst (λ (k : ℕ). length (callsShown kinds addresses values left right k) ≤ 17 * (i + 1) + 16 * framesAsked kinds addresses 0 (i + 1)) (sym (add-one i))
+            (omega (arith, length-append (callsShown kinds addresses values left right i) (own (getD kinds i 0) (getD addresses i 0) (getD values i 0)), g .short i (omega arith), s, few, ap length is-own, now-frames, g .is))
 
 pub showing-all :
     (kinds addresses values : List ℕ) (left right : List ℤ) (out : List ℕ) (at : ℕ) (mid : List ℕ) (end frame i : ℕ) → Showing kinds addresses values left right out at mid end frame i → length kinds ≤ i →
-    Put out mid at (shown kinds addresses values left right (length kinds)) end × Short kinds addresses values left right (length kinds)
+    Put out mid at (callsShown kinds addresses values left right (length kinds)) end × Short kinds addresses values left right (length kinds)
 showing-all kinds addresses values left right out at mid end frame i g h =
     let e : i ≡ length kinds = omega (arith, h, g .within) in
-    (subst (λ (k : ℕ). Put out mid at (shown kinds addresses values left right k) end) e (g .put), subst (λ (k : ℕ). Short kinds addresses values left right k) e (g .short))
+    (subst (λ (k : ℕ). Put out mid at (callsShown kinds addresses values left right k) end) e (g .put), subst (λ (k : ℕ). Short kinds addresses values left right k) e (g .short))
 
 -- ---- a batch
 pub batch-none : (input : List ℕ) (w : World) (number from : ℕ) (out : List ℕ) (at : ℕ) → refusedBy w ≡ 0 → at + 16384 ≤ length out → NoLine input from → Batches input w number from w number from out out at at

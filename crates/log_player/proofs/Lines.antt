@@ -32,7 +32,7 @@ use Rattle.log.specs.Texts.{peakOf}
 use Rattle.log_player.specs.Worlds.{World, world}
 use Rattle.log_player.specs.Applied.{Effect, effectOf}
 use Rattle.log_player.specs.Runs.{refusedBy}
-use Rattle.log_player.specs.Batches.{lineOf, linesEffect, mostPrinted, shownLine, shown, Short, Silent, PlaysLines}
+use Rattle.log_player.specs.Batches.{lineOf, linesEffect, mostPrinted, shownLine, callsShown, Short, Silent, PlaysLines}
 use Rattle.log_player.proofs.Overs.{handOf}
 use Rattle.log_player.proofs.Hearing.{sets-at, zeros, part-long, part-at, added-at, sum-same, heardSide, heard-long, heard-at, Moves, Roomy, own-long, own-silent, stems-made, lookedAt, moves, worldOf, Own, one-line}
 
@@ -218,7 +218,7 @@ module _ (kinds addresses values : List ℕ) (w : World) (stems : List ℤ) (cou
   abbrev heardTo : ℕ → Effect
   heardTo n = record {
     after = worldOf kinds addresses (s n) (peakOf (w .player .left) L (F n)) (peakOf (w .player .right) R (F n));
-    text = shown kinds addresses bytes L R n;
+    text = callsShown kinds addresses bytes L R n;
   }
 
   abbrev line : ℕ → Line
@@ -228,7 +228,7 @@ module _ (kinds addresses values : List ℕ) (w : World) (stems : List ℤ) (cou
   next n b = record { after = effectOf (b .after) (line n) .after; text = b .text ++ effectOf (b .after) (line n) .text }
 
   heard-next : (n : ℕ) → n < count → next n (heardTo n) ≡ heardTo (suc n)
-  unfolding callsPlayed shown shownLine lineOf
+  unfolding callsPlayed callsShown shownLine lineOf
   heard-next n h =
       let b = before n (omega (arith, h)) in
       let f = sym (frames-next n) in
@@ -236,19 +236,19 @@ module _ (kinds addresses values : List ℕ) (w : World) (stems : List ℤ) (cou
       let r = w .player .right in
       let xl = part L (F n) (c n) in
       let xr = part R (F n) (c n) in
-      ap (λ (e : Effect). record { after = e .after; text = shown kinds addresses bytes L R n ++ e .text })
+      ap (λ (e : Effect). record { after = e .after; text = callsShown kinds addresses bytes L R n ++ e .text })
       (one-line kinds addresses n (s n) (peakOf l L (F n)) (peakOf r R (F n)) (getD values n 0) (getD bytes n 0) xl xr (asks n) (roomy n h b) (b .values-ahead n (omega arith)) (owns n h))
       ∙ (λ i. record {
         after = worldOf kinds addresses (s (suc n)) ((peak-part l L (F n) (c n) (c n) (omega arith) ∙ ap (peakOf l L) f) i) ((peak-part r R (F n) (c n) (c n) (omega arith) ∙ ap (peakOf r R) f) i);
-        text = shown kinds addresses bytes L R (suc n);
+        text = callsShown kinds addresses bytes L R (suc n);
       })
 
   pub heard-lines : (n : ℕ) → n ≤ count → linesEffect kinds addresses values n w
       ≡ record {
         after = worldOf kinds addresses (s n) (peakOf (w .player .left) (side false) (framesAsked kinds addresses 0 n)) (peakOf (w .player .right) (side true) (framesAsked kinds addresses 0 n));
-        text = shown kinds addresses bytes (side false) (side true) n;
+        text = callsShown kinds addresses bytes (side false) (side true) n;
       }
-  unfolding linesEffect callsPlayed framesAsked peakOf shown
+  unfolding linesEffect callsPlayed framesAsked peakOf callsShown
   heard-lines zero h = refl
   heard-lines (suc n) h = ap (next n) (heard-lines n (omega arith)) ∙ heard-next n h
 
@@ -373,7 +373,7 @@ module _ (kinds addresses values : List ℕ) (w : World) (stems left right : Lis
         chip ≡ playCalled kinds addresses (playing (w .player .chip) (w .ram) (w .queues) values stems) .chip → ram ≡ playLeft kinds addresses (playing (w .player .chip) (w .ram) (w .queues) values stems) .ram →
         queues ≡ playLeft kinds addresses (playing (w .player .chip) (w .ram) (w .queues) values stems) .queues → values′ ≡ playLeft kinds addresses (playing (w .player .chip) (w .ram) (w .queues) values stems) .values →
         l ≡ heardOn false → r ≡ heardOn true → pl ≡ peakOf (w .player .left) l (length l) → pr ≡ peakOf (w .player .right) r (length r) →
-        Put out now at (shown kinds addresses values′ l r (length kinds)) end → Short kinds addresses values′ l r (length kinds) →
+        Put out now at (callsShown kinds addresses values′ l r (length kinds)) end → Short kinds addresses values′ l r (length kinds) →
         length ram ≡ length (w .ram) → length queues ≡ length (w .queues) → (acceptsChip (w .player .chip) (length (w .ram)) ≡ true → acceptsChip chip (length (w .ram)) ≡ true) →
         PlaysLines kinds addresses values w (world (record { chip = chip; left = pl; right = pr }) ram queues) out now at end
     plays-lines ec em eq ev el er epl epr put short lm lq kept = record {
@@ -386,11 +386,11 @@ module _ (kinds addresses values : List ℕ) (w : World) (stems left right : Lis
         f : Accepted w
         f = accepted-of w ok
 
-        lines : (n : ℕ) → n ≤ N → linesEffect kinds addresses values n w ≡ record { after = worldOf kinds addresses (callsPlayed kinds addresses n start) (peakOf (w .player .left) (heardOn false) (framesAsked kinds addresses 0 n)) (peakOf (w .player .right) (heardOn true) (framesAsked kinds addresses 0 n)); text = shown kinds addresses (last .values) (heardOn false) (heardOn true) n }
+        lines : (n : ℕ) → n ≤ N → linesEffect kinds addresses values n w ≡ record { after = worldOf kinds addresses (callsPlayed kinds addresses n start) (peakOf (w .player .left) (heardOn false) (framesAsked kinds addresses 0 n)) (peakOf (w .player .right) (heardOn true) (framesAsked kinds addresses 0 n)); text = callsShown kinds addresses (last .values) (heardOn false) (heardOn true) n }
         lines n h = heard-lines kinds addresses values w stems (length kinds) lots (z .few) room silence n h
 
-        texts : (n : ℕ) → n ≤ N → shown kinds addresses values′ l r n ≡ linesEffect kinds addresses values n w .text
-        texts n h = (λ i. shown kinds addresses ((ev ∙ ap (λ (p : Playing). p .values) left-is) i) (el i) (er i) n) ∙ sym (ap (λ (x : Effect). x .text) (lines n h))
+        texts : (n : ℕ) → n ≤ N → callsShown kinds addresses values′ l r n ≡ linesEffect kinds addresses values n w .text
+        texts n h = (λ i. callsShown kinds addresses ((ev ∙ ap (λ (p : Playing). p .values) left-is) i) (el i) (er i) n) ∙ sym (ap (λ (x : Effect). x .text) (lines n h))
 
         long-left : length l ≡ all
         long-left = ap length el ∙ side-long kinds addresses values w stems (length kinds) lots (z .few) room silence false

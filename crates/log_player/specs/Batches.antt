@@ -28,18 +28,18 @@ use Rattle.log_player.specs.Runs.{spot, isLine, stopText, runFrom, refus
 abbrev pub noCallKind : ℕ
 noCallKind = 6
 
-abbrev pub call : ℕ → ℕ → ℕ → ListedCall
-call kind address value = record { kind = kind; address = address; value = value }
+abbrev pub callMade : ℕ → ℕ → ℕ → ListedCall
+callMade kind address value = record { kind = kind; address = address; value = value }
 
 abbrev pub listedCall : Line → ListedCall
-listedCall (Write address value) = call writeRegisterKind address value
-listedCall (WriteRam address value) = call writePcmRamKind address value
-listedCall (Read address) = call readRegisterKind address 0
-listedCall (Peek address) = call peekRegisterKind address 0
-listedCall (Clock frames) = call clockKind frames 0
-listedCall (Version version) = call setVersionKind version 0
-listedCall Malformed = call noCallKind 0 0
-listedCall Unmapped = call noCallKind 0 0
+listedCall (Write address value) = callMade writeRegisterKind address value
+listedCall (WriteRam address value) = callMade writePcmRamKind address value
+listedCall (Read address) = callMade readRegisterKind address 0
+listedCall (Peek address) = callMade peekRegisterKind address 0
+listedCall (Clock frames) = callMade clockKind frames 0
+listedCall (Version version) = callMade setVersionKind version 0
+listedCall Malformed = callMade noCallKind 0 0
+listedCall Unmapped = callMade noCallKind 0 0
 
 -- the line that a call stands for
 abbrev pub lineAs : Asked → Bool → ℕ → ℕ → Line
@@ -78,17 +78,17 @@ unfoldable pub shownLine : ℕ → ℕ → ℕ → List ℤ → List ℤ → Lis
 shownLine kind address value left right = shownAs (askedOf kind) (eqb kind readRegisterKind) address value left right
 
 -- the first n: each clock has its own part of the sides
-unfoldable pub shown : List ℕ → List ℕ → List ℕ → List ℤ → List ℤ → ℕ → List ℕ
-shown kinds addresses values left right zero = []
-shown kinds addresses values left right (suc n) =
+unfoldable pub callsShown : List ℕ → List ℕ → List ℕ → List ℤ → List ℤ → ℕ → List ℕ
+callsShown kinds addresses values left right zero = []
+callsShown kinds addresses values left right (suc n) =
     let frame = framesAsked kinds addresses 0 n in
     let frames = clockedBy kinds addresses n in
-    shown kinds addresses values left right n
+    callsShown kinds addresses values left right n
     ++ shownLine (getD kinds n 0) (getD addresses n 0) (getD values n 0) (part left frame frames) (part right frame frames)
 
 -- each of the first n lines ends within these bytes
 abbrev pub Short : List ℕ → List ℕ → List ℕ → List ℤ → List ℤ → ℕ → Type 0
-Short kinds addresses values left right n = (j : ℕ) → j ≤ n → length (shown kinds addresses values left right j) ≤ mostPrinted kinds addresses j
+Short kinds addresses values left right n = (j : ℕ) → j ≤ n → length (callsShown kinds addresses values left right j) ≤ mostPrinted kinds addresses j
 
 -- ---- an input holds n lines from one place to another, none of them bad: a run that has room for each plays them and goes on behind them. Each but the first
 -- begins where at most `budget` bytes are printed.

@@ -6,7 +6,7 @@ ghost use Rattle.decimal.specs.Written.{Put};
 ghost use Rattle.frames.specs.Listing.{framesAsked};
 ghost use Rattle.log_player.specs.Worlds.{world};
 ghost use Rattle.log_player.specs.Runs.{refusedBy};
-ghost use Rattle.log_player.specs.Batches.{call, listedCall, shownLine, shown, Short, Gathers, NoLine, Silent, PlaysLines, Batches};
+ghost use Rattle.log_player.specs.Batches.{callMade, listedCall, shownLine, callsShown, Short, Gathers, NoLine, Silent, PlaysLines, Batches};
 use crate::Batch;
 use crate::Gathered;
 use crate::ListedCall;
@@ -36,7 +36,7 @@ const FEW: usize = 64;
 const NO_CALL: u8 = 6;
 
 fn call(kind: u8, address: u32, value: u8) -> ListedCall
-    ensures { λ r. ⌜ r ≡ call kind address value ⌝ }
+    ensures { λ r. ⌜ r ≡ callMade kind address value ⌝ }
 {
     ListedCall {
         kind,
@@ -160,7 +160,7 @@ fn show(
         × (framesAsked (now kinds) (now addresses) 0 (length (now kinds)) ≤ length (now right))
         × (framesAsked (now kinds) (now addresses) 0 (length (now kinds)) ≤ 1000) ⌝ }
     ensures put { λ r. ⌜ Put (now (out .entry)) (now (out .exit)) at
-        (shown (now (kinds .entry)) (now (addresses .entry)) (now (values .entry)) (now (left .entry)) (now (right .entry))
+        (callsShown (now (kinds .entry)) (now (addresses .entry)) (now (values .entry)) (now (left .entry)) (now (right .entry))
         (length (now (kinds .entry)))) r ⌝ }
     ensures bound { λ _. ⌜ Short (now (kinds .entry)) (now (addresses .entry)) (now (values .entry)) (now (left .entry)) (now (right .entry))
         (length (now (kinds .entry))) ⌝ }
