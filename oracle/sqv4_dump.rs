@@ -9,7 +9,9 @@ mod sgu {
 use sgu::sqv4::{self, Error, Header};
 use std::io::{self, Read, Write};
 
+/// The longest file of a batch, and the longest one by itself.
 const MOST: usize = 1_048_576;
+const MOST_ALONE: usize = 16_777_216;
 
 /// The number of document 01's table, with its values.
 fn refusal(error: &Error) -> Vec<usize> {
@@ -54,8 +56,8 @@ fn refused(error: &Error, out: &mut impl Write) -> io::Result<()> {
     writeln!(out)
 }
 
-fn dump(data: &[u8], out: &mut impl Write) -> io::Result<()> {
-    if data.len() > MOST {
+fn dump(data: &[u8], most: usize, out: &mut impl Write) -> io::Result<()> {
+    if data.len() > most {
         return writeln!(out, "too long");
     }
     match (sqv4::inspect(data), sqv4::decode(data)) {
@@ -79,7 +81,7 @@ fn batch(input: &[u8], out: &mut impl Write) -> io::Result<()> {
         if after.len() < length {
             return writeln!(out, "cut short");
         }
-        dump(&after[..length], out)?;
+        dump(&after[..length], MOST, out)?;
         rest = &after[length..];
     }
     Ok(())
@@ -92,7 +94,7 @@ fn main() -> io::Result<()> {
     if std::env::args().nth(1).as_deref() == Some("--batch") {
         batch(&input, &mut out)?;
     } else {
-        dump(&input, &mut out)?;
+        dump(&input, MOST_ALONE, &mut out)?;
     }
     out.flush()
 }

@@ -164,6 +164,27 @@ def file(seed, number, small=False):
     return bytes(maker(rng, small))
 
 
+def long_file(seed, number, frames):
+    """A file of so many fragments a channel; in some a bit is changed, a step index is 89, the last byte's high bits are set, or a byte is
+    missing or too much."""
+    rng = random.Random(f"{seed} long {number}")
+    version, variant, channels = number % 3 + 1, rng.randrange(3), rng.randrange(1, 3)
+    per = samples_of(version)
+    samples = per * frames - rng.choice([0, 1, rng.randrange(per)])
+    parts = [fragment(rng, version, variant, min(per, samples - first)) for first in range(0, samples, per) for _ in range(channels)]
+    made = bytearray(header(version, variant, channels, 48000, samples) + b"".join(parts))
+    change = rng.randrange(6)
+    if change == 0:
+        made[rng.randrange(len(made))] ^= 1 << rng.randrange(8)
+    elif change == 1:
+        made[17 + len(parts[0]) * rng.randrange(len(parts))] = 89
+    elif change == 2:
+        made[-1] |= 192
+    elif change == 3:
+        made = made[:-1] if rng.random() < 0.5 else made + b"x"
+    return bytes(made)
+
+
 def framed(data):
     return len(data).to_bytes(4, "little") + data
 

@@ -194,7 +194,7 @@ file_refusal() { # NUMBER [VALUE..]
 # The words of a closing line `bad,..`, `refused,..` or `too long`.
 refusal() { # LINE
     local word values
-    [ "$1" != 'too long' ] || { echo "the file is longer than 1048576 bytes, and it takes no longer one"; return; }
+    [ "$1" != 'too long' ] || { echo "the file is longer than 16777216 bytes, and it takes no longer one"; return; }
     IFS=, read -r word values <<< "$1"
     IFS=, read -r -a values <<< "$values"
     case $word:$crate:${values[1]-} in

@@ -56,19 +56,38 @@ descriptor_says() { # DESCRIPTOR NAME
     done 2>/dev/null < "/proc/self/fdinfo/$1"
 }
 
-# Whether reading or writing there is refused instead of waiting. A pipe or a terminal can then be opened anew, to wait.
+# Whether reading or writing there is refused instead of waiting.
 would_block() { # DESCRIPTOR
     local flags
     flags=$(descriptor_says "$1" flags:)
-    [ -n "$flags" ] && (((8#$flags & 8#4000) != 0)) || return 1
-    case $(readlink "/proc/self/fd/$1") in pipe:* | /dev/*) return 0 ;; esac
-    return 1
+    [ -n "$flags" ] && (((8#$flags & 8#4000) != 0))
+}
+
+# Opens standard input (0) anew as descriptor 4, or standard output (1) as 3, so that it waits. A pipe with a name waits for its other end
+# when it is opened: descriptor 9 is that end meanwhile. A socket cannot be opened.
+opened_anew() { # DESCRIPTOR
+    [ ! -p "/dev/fd/$1" ] || { exec 9<> "/dev/fd/$1"; } 2>/dev/null || return 1
+    case $1 in
+    0) { exec 4< /dev/fd/0; } 2>/dev/null ;;
+    1) { exec 3> /dev/fd/1; } 2>/dev/null ;;
+    esac
+    local status=$?
+    exec 9>&-
+    return $status
+}
+
+# Hands on what comes from an input that does not wait and cannot be opened anew, looking again and again.
+wait_for_input() { # DESCRIPTOR
+    local words
+    until words=$(LC_ALL=C cat <&"$1" 2>&1 >&8); do
+        case $words in *'Resource temporarily unavailable') sleep 0.02 ;; *) return 1 ;; esac
+    done
 }
 
 # Descriptor 3 is where the program's output goes.
 open_output() {
     { exec 3>&1; } 2>/dev/null || cannot "the output cannot be written: standard output is closed"
-    if would_block 3; then { exec 3> /dev/fd/1; } 2>/dev/null || exec 3>&1; fi
+    if would_block 3; then opened_anew 1 || exec 3>&1; fi
 }
 
 # Descriptor 4 is what the program reads, `shown` what the FILEs or standard input can be read from again to show a line, if they can.
@@ -87,7 +106,7 @@ open_input() {
     fi
     { exec 4<&0; } 2>/dev/null || cannot "the input cannot be read: standard input is closed"
     [ ! -d /dev/fd/4 ] || cannot "the input cannot be read: standard input is a folder"
-    if would_block 4; then { exec 4< /dev/fd/0; } 2>/dev/null || exec 4<&0; fi
+    if would_block 4; then opened_anew 0 || exec 4< <(exec 8>&1; wait_for_input 0); fi
     if [ ${#files[@]} -le 1 ]; then
         files=()
         if [ -f /dev/fd/4 ] && [ "$(descriptor_says 4 pos:)" = 0 ]; then shown=(/dev/fd/4); fi
@@ -118,6 +137,17 @@ take_words() {
     exec 10<&-
 }
 
+# sqv4-dump reads a long file twice: what cannot be read again is put into a file first.
+readable_again() {
+    local file
+    [ "$crate" = sqv4_dump ] && [ ! -f /dev/fd/4 ] || return 0
+    file=$(mktemp) || cannot "there is no room for a file in ${TMPDIR:-/tmp}"
+    exec 9<> "$file"
+    rm -f -- "$file"
+    head -c 16777217 <&4 >&9 2>/dev/null || cannot "the input cannot be read"
+    exec 4< /dev/fd/9 9>&-
+}
+
 # Starts the program on one input, or on several FILEs one behind the other.
 start() {
     if [ ${#files[@]} -eq 0 ]; then
@@ -133,6 +163,7 @@ run() {
     local program status stopped='' unread='' line reason='' passed='' closing='' signal
     open_output
     open_input
+    readable_again
     open_words
     coproc FILTER { hand_on; } 9>&- 10<&-
     # the two ends of a coprocess are not handed on to what runs beside it, their copies are

@@ -7,12 +7,16 @@ ghost use Rattle.decimal.specs.Written.{Put};
 ghost use Rattle.sqv4_text.specs.Lines.{Lists, headerValues, valuesOf, samplesIn, fields, lines, wordOf, answerLine};
 
 mod pieces;
+mod windows;
 
 use sqv4::Header;
 use sqv4::Inspected;
 
-// The longest file that is taken.
+// The longest file of a batch that is taken.
 const LONGEST: usize = 1048576;
+
+// The longest file by itself: no longer one can lie in a chip's RAM.
+const LONGEST_READ: usize = 16777216;
 
 // More room than a text ever has left: all of it is written.
 const EVERYTHING: usize = 0xffff_ffff_ffff_ffff;
@@ -248,19 +252,32 @@ pub fn print_batch() {
     with_samples(&mut samples);
 }
 
-fn print_one(file: &mut [u8], text: &mut [u8]) {
-    let length = io::read_full(libc::STDIN_FILENO, &mut *file);
-    let end = pieces::print_file(num::part(file, 0, length), &mut *text);
+// Prints what the one file on standard input is. One that has no room in the buffer is read window by window, if it can be read
+// again from where it began.
+fn print_one(window: &mut [u8], text: &mut [u8]) {
+    let begin = libc::lseek(libc::STDIN_FILENO, 0, libc::SEEK_CUR);
+    let length = io::read_full(libc::STDIN_FILENO, &mut *window);
+    if length < window.len() {
+        let end = pieces::print_file(num::part(window, 0, length), &mut *text);
+        program::flush(text, end, EVERYTHING);
+        return;
+    }
+    if begin < 0 {
+        let end = decimal::put_text(&mut *text, 0, b"too long\n");
+        program::flush(text, end, EVERYTHING);
+        return;
+    }
+    let end = windows::print_long(begin, window, &mut *text);
     program::flush(text, end, EVERYTHING);
 }
 
-fn with_text(file: &mut [u8]) {
+fn with_window(window: &mut [u8]) {
     let mut text = io::large_buffer();
-    print_one(file, &mut text);
+    print_one(window, &mut text);
 }
 
-// Prints what the one file on standard input is. It has no buffer for the samples.
+// Prints what the one file on standard input is. It has no buffer for the samples, nor for a long file.
 pub fn print_single() {
-    let mut file = [0u8; 1048577];
-    with_text(&mut file);
+    let mut window = io::large_buffer();
+    with_window(&mut window);
 }

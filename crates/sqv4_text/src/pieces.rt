@@ -5,22 +5,22 @@ use sqv4::Inspected;
 
 // Where the printing stands: the next fragment begins at `from`, `rest` samples of a channel are not printed yet, the fragments
 // before left the two channels in these states, and the text ends at `end`.
-struct Place {
-    from: usize,
-    rest: usize,
-    first: State,
-    second: State,
-    end: usize,
+pub(crate) struct Place {
+    pub from: usize,
+    pub rest: usize,
+    pub first: State,
+    pub second: State,
+    pub end: usize,
 }
 
-fn begun(header: Header, end: usize) -> Place {
+pub(crate) fn begun(samples: usize, end: usize) -> Place {
     let zero = State {
         predictor: 0,
         index: 0,
     };
     Place {
         from: 16,
-        rest: header.samples_per_channel,
+        rest: samples,
         first: zero,
         second: zero,
         end,
@@ -93,26 +93,26 @@ fn print_piece(header: Header, place: Place, file: &[u8], text: &mut [u8]) -> Pl
     }
 }
 
-fn print_pieces(header: Header, file: &[u8], text: &mut [u8], at: usize) -> usize {
-    let mut place = begun(header, at);
+// Prints the fragments that stand in a file behind its header, from a place on.
+pub(crate) fn print_pieces(header: Header, begun: Place, file: &[u8], text: &mut [u8]) -> Place {
+    let mut place = begun;
+    place.from = 16;
     let mut left = header.frame_count;
     while 0 < left {
         place = print_piece(header, place, file, &mut *text);
         left -= 1;
     }
-    place.end
+    place
 }
 
 // Puts what a file is, and writes what the text has no room for. What is put last stands in the text, before the place that comes
 // back.
 pub(crate) fn print_file(file: &[u8], text: &mut [u8]) -> usize {
-    if crate::LONGEST < file.len() {
-        return decimal::put_text(text, 0, b"too long\n");
-    }
     let found = sqv4::inspect(file);
     let end = crate::put_answer(&mut *text, 0, found);
     let Inspected::Accepted(header) = found else {
         return end;
     };
-    print_pieces(header, file, text, end)
+    let last = print_pieces(header, begun(header.samples_per_channel, end), file, text);
+    last.end
 }

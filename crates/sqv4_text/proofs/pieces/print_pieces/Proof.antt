@@ -1,20 +1,21 @@
-use mathlib.Core.Path.{_≡_}
+use mathlib.Core.Path.{_≡_, refl}
 use lib.ListN.{length}
+use native.Mathlib.Omega.{arith}
 use borrow.Author.Needs.{needs}
 use Rattle.sqv4_text.proofs.pieces.print_pieces.Statement.{statement}
 use Rattle.sqv4_text.proofs.pieces.print_pieces.Tie as tie
+use Rattle.sqv4_text.proofs.pieces.print_pieces.Reads as reads
+use Rattle.sqv4_text.proofs.pieces.print_pieces.Lts as lts
+use Rattle.sqv4_text.proofs.pieces.print_piece.Reads as print-piece-reads
 
 abbrev Inv-loop : tie.InvT-loop
-Inv-loop header file text₀ at place₀ left₀ text place left = length text ≡ length text₀
+Inv-loop header file text₀ place₀ left₀ text place left = length text ≡ length text₀
 
 abbrev μ-loop : tie.MeasureT-loop
-μ-loop header file text₀ at place₀ left₀ text place left = left
-
-begun-requires : tie.Need-begun-requires Inv-loop μ-loop
-begun-requires c κs = search needs
+μ-loop header file text₀ place₀ left₀ text place left = left
 
 loop-holds : tie.Need-loop-holds Inv-loop μ-loop
-loop-holds c = search needs
+loop-holds c = refl
 
 print-piece-requires : tie.Need-print-piece-requires Inv-loop μ-loop
 print-piece-requires c κs = search needs
@@ -40,7 +41,6 @@ print-pieces-spec =
     (tie.spec
     Inv-loop
     μ-loop
-    begun-requires
     loop-holds
     print-piece-requires
     sub-left
