@@ -99,7 +99,8 @@ function time_axis(y,    length_, gap, k, gaps, count, at) {
 }
 function length_told() {
     if (frames == 0) return "no frames"
-    return sprintf("%d frame%s, ", frames, frames == 1 ? "" : "s") (frames < 4800 ? sprintf("%.3f ms", frames / 48) : sprintf("%.1f s", frames / 48000))
+    return sprintf("%d frame%s, ", frames, frames == 1 ? "" : "s") \
+        (frames < 4800 ? sprintf("%.3f ms", frames / 48) : sprintf("%.1f s", frames / 48000))
 }
 END {
     gather()
