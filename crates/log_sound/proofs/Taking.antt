@@ -5,11 +5,11 @@ use mathlib.Core.List.{List}
 use Prim.Native.Nat.{ℕ, zero, suc, _+_, _-_, _≤_, _<_}
 use native.Mathlib.Numerals.{add-one}
 use native.Mathlib.Omega.{arith}
-use lib.Dec.{eqb, leb}
+use lib.Dec.{eqb, leb, ltb}
 use lib.ListN.{length, drop, set, length-drop, length-set}
-use borrow.Author.Tests.{eq-eqb, le-leb, lt-leb}
+use borrow.Author.Tests.{eq-eqb, ne-eqb, le-leb, lt-leb, lt-ltb}
 use Rattle.log.specs.declared.Line.{Line}
-use Rattle.log.specs.Lines.{parsedLine}
+use Rattle.log.specs.Lines.{parsedLine, badNumber, isBad}
 use Rattle.log_player.specs.declared.Next.{Next}
 use Rattle.log_player.specs.declared.Next.the-variants.{Line as Whole, Rest, Bad}
 use Rattle.log_player.specs.Steps.{firstLine, nextOf}
@@ -28,6 +28,22 @@ pub not-whole : (l : List ℕ) (from stop : ℕ) → stop ≡ from + length (fir
 unfolding nextOf
 not-whole l from stop s h =
     rw (eq-eqb (length (firstLine (drop from l))) (length (drop from l)) (omega (arith, length-drop from l, first-short (drop from l)))) (no-line (leb (length (drop from l)) 16) _)
+
+-- by a line's number
+bad-by : (why : ℕ) (line : Line) → why ≡ badNumber line → (why ≡ 0 → ⊥) → isBad line ≡ true
+bad-by why line e n = lt-ltb 0 (badNumber line) (above (badNumber line) (λ z. n (e ∙ z)))
+  where
+    above : (m : ℕ) → (m ≡ 0 → ⊥) → 0 < m
+    above m k = omega arith
+
+pub good-by : (why : ℕ) (line : Line) → why ≡ badNumber line → why ≡ 0 → isBad line ≡ false
+good-by why line e z = ap (ltb 0) (sym e ∙ z)
+
+pub next-bad : (l : List ℕ) (from stop : ℕ) → stop ≡ from + length (firstLine (drop from l)) → (line : Line) (why : ℕ) → from < length l → (stop ≡ length l → ⊥) → line ≡ parsedLine (firstLine (drop from l)) → why ≡ badNumber line → (why ≡ 0 → ⊥)
+    → nextOf (drop from l) from ≡ Bad why
+unfolding nextOf
+next-bad l from stop s line why h n e m z =
+    rw (ne-eqb (length (firstLine (drop from l))) (length (drop from l)) (λ q. n (omega (arith, length-drop from l))), ← e, bad-by why line m z, ← m)
 
 pub is-bad : (n : Next) (why : ℕ) → n ≡ Bad why → isLine n ≡ false
 is-bad n why e = ap isLine e

@@ -1,7 +1,7 @@
-use Rattle.log_sound.proofs.Taking.{not-whole, is-bad, is-whole, not-less, not-taken, no-room, has-room, none-taken, all-taken, taken-on, leaves}
+use Rattle.log_sound.proofs.Taking.{good-by, next-bad, not-whole, is-bad, is-whole, not-less, not-taken, no-room, has-room, none-taken, all-taken, taken-on, leaves}
 use Rattle.log_sound.specs.Gathering.{framesOf, gathering, gathered, listFrom}
 use Rattle.log_player.specs.Batches.{listedCall}
-use Rattle.log_player.proofs.Stops.{next-bad, next-line, line-part, good-by}
+use Rattle.log_player.proofs.Stops.{next-line, line-part}
 use Rattle.log.specs.Lines.{parsedLine}
 use lib.ListN.{length}
 use Prim.Native.Nat.{_-_, _≤_, _<_}

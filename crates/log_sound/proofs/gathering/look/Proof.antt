@@ -1,4 +1,5 @@
-use Rattle.log_player.proofs.Stops.{next-past, next-rest, next-long, next-bad, next-line, line-part, stop-in, good-by}
+use Rattle.log_player.proofs.Stops.{next-past, next-rest, next-long, next-line, line-part, stop-in}
+use Rattle.log_sound.proofs.Taking.{next-bad, good-by}
 use Rattle.log.specs.Lines.{parsedLine}
 use native.Mathlib.Omega.{arith}
 use mathlib.Core.Path.{sym, ap, _∙_}

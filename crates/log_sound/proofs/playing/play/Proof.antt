@@ -60,7 +60,7 @@ same-length-3 c = search needs
 returns : tie.Need-returns
 returns c = let e = c .before .before .before .before .before .before .play .ensures in
     let left = left-is (c .before .before .before .before .before .before .before .before .before .before .before .before .before .before .before .before .before .before .before .before .args .chip) (c .before .before .before .before .before .before .before .before .before .before .before .before .before .before .before .before .before .before .before .before .args .input .now) (c .before .before .before .before .before .before .before .before .before .before .before .before .before .before .before .before .before .before .before .before .args .from) (c .before .before .before .before .before .before .before .before .before .before .before .before .before .before .before .before .before .before .before .before .args .ram .now) (c .before .before .before .before .before .before .before .before .before .before .before .before .before .before .before .before .before .before .before .before .args .queues .now) (c .before .before .before .before .before .before .before .before .before .before .before .before .before .before .before .before .before .before .before .before .args .stems .now) (c .before .before .before .before .before .before .before .before .before .before .before .before .before .before .gather .result) _ _ _ (c .before .before .before .before .before .before .before .before .before .before .before .before .before .before .gather .ensures .0) (c .before .before .before .before .before .before .before .before .before .before .before .before .before .before .gather .ensures .1 .0) (c .before .before .before .before .before .before .before .before .before .before .before .before .before .before .gather .ensures .1 .1 .0) (c .before .before .before .before .before .before .before .before .before .before .before .before .before .before .gather .ensures .1 .1 .1 .0) in
-    (sounded-is (c .before .before .before .before .before .before .before .before .before .before .before .before .before .before .before .before .before .before .before .before .args .chip) (c .before .before .before .before .before .before .before .before .before .before .before .before .before .before .before .before .before .before .before .before .args .input .now) (c .before .before .before .before .before .before .before .before .before .before .before .before .before .before .before .before .before .before .before .before .args .from) (c .before .before .before .before .before .before .before .before .before .before .before .before .before .before .before .before .before .before .before .before .args .ram .now) (c .before .before .before .before .before .before .before .before .before .before .before .before .before .before .before .before .before .before .before .before .args .queues .now) (c .before .before .before .before .before .before .before .before .before .before .before .before .before .before .before .before .before .before .before .before .args .stems .now) (c .before .before .before .before .before .before .before .before .before .before .before .before .before .before .gather .result) _ _ _ (c .before .before .before .before .before .before .before .before .before .before .before .before .before .before .gather .ensures .0) (c .before .before .before .before .before .before .before .before .before .before .before .before .before .before .gather .ensures .1 .0) (c .before .before .before .before .before .before .before .before .before .before .before .before .before .before .gather .ensures .1 .1 .0) (c .before .before .before .before .before .before .before .before .before .before .before .before .before .before .gather .ensures .1 .1 .1 .0) _ (e .0), (e .1 .0 ∙ ap (λ (x : Playing). x .ram) left, (e .1 .1 .0 ∙ ap (λ (x : Playing). x .queues) left, (stems-are (c .before .before .before .before .before .before .before .before .before .before .before .before .before .before .before .before .before .before .before .before .args .chip) (c .before .before .before .before .before .before .before .before .before .before .before .before .before .before .before .before .before .before .before .before .args .input .now) (c .before .before .before .before .before .before .before .before .before .before .before .before .before .before .before .before .before .before .before .before .args .from) (c .before .before .before .before .before .before .before .before .before .before .before .before .before .before .before .before .before .before .before .before .args .ram .now) (c .before .before .before .before .before .before .before .before .before .before .before .before .before .before .before .before .before .before .before .before .args .queues .now) (c .before .before .before .before .before .before .before .before .before .before .before .before .before .before .before .before .before .before .before .before .args .stems .now) (c .before .before .before .before .before .before .before .before .before .before .before .before .before .before .gather .result) _ _ _ (c .before .before .before .before .before .before .before .before .before .before .before .before .before .before .gather .ensures .0) (c .before .before .before .before .before .before .before .before .before .before .before .before .before .before .gather .ensures .1 .0) (c .before .before .before .before .before .before .before .before .before .before .before .before .before .before .gather .ensures .1 .1 .0) (c .before .before .before .before .before .before .before .before .before .before .before .before .before .before .gather .ensures .1 .1 .1 .0) _ (e .1 .1 .1 .1), (c .before .before .before .before .before .before .before .before .before .before .before .before .before .before .gather .ensures .1 .1 .1 .1 .0, omega (arith, c .before .before .before .before .before .before .before .before .before .before .before .before .before .before .gather .ensures .1 .1 .1 .1 .1))))))
+    (sounded-is (c .before .before .before .before .before .before .before .before .before .before .before .before .before .before .before .before .before .before .before .before .args .chip) (c .before .before .before .before .before .before .before .before .before .before .before .before .before .before .before .before .before .before .before .before .args .input .now) (c .before .before .before .before .before .before .before .before .before .before .before .before .before .before .before .before .before .before .before .before .args .from) (c .before .before .before .before .before .before .before .before .before .before .before .before .before .before .before .before .before .before .before .before .args .ram .now) (c .before .before .before .before .before .before .before .before .before .before .before .before .before .before .before .before .before .before .before .before .args .queues .now) (c .before .before .before .before .before .before .before .before .before .before .before .before .before .before .before .before .before .before .before .before .args .stems .now) (c .before .before .before .before .before .before .before .before .before .before .before .before .before .before .gather .result) _ _ _ (c .before .before .before .before .before .before .before .before .before .before .before .before .before .before .gather .ensures .0) (c .before .before .before .before .before .before .before .before .before .before .before .before .before .before .gather .ensures .1 .0) (c .before .before .before .before .before .before .before .before .before .before .before .before .before .before .gather .ensures .1 .1 .0) (c .before .before .before .before .before .before .before .before .before .before .before .before .before .before .gather .ensures .1 .1 .1 .0) _ (e .0), (e .1 .0 ∙ ap (λ (x : Playing). x .ram) left, (e .1 .1 .0 ∙ ap (λ (x : Playing). x .queues) left, (stems-are (c .before .before .before .before .before .before .before .before .before .before .before .before .before .before .before .before .before .before .before .before .args .chip) (c .before .before .before .before .before .before .before .before .before .before .before .before .before .before .before .before .before .before .before .before .args .input .now) (c .before .before .before .before .before .before .before .before .before .before .before .before .before .before .before .before .before .before .before .before .args .from) (c .before .before .before .before .before .before .before .before .before .before .before .before .before .before .before .before .before .before .before .before .args .ram .now) (c .before .before .before .before .before .before .before .before .before .before .before .before .before .before .before .before .before .before .before .before .args .queues .now) (c .before .before .before .before .before .before .before .before .before .before .before .before .before .before .before .before .before .before .before .before .args .stems .now) (c .before .before .before .before .before .before .before .before .before .before .before .before .before .before .gather .result) _ _ _ (c .before .before .before .before .before .before .before .before .before .before .before .before .before .before .gather .ensures .0) (c .before .before .before .before .before .before .before .before .before .before .before .before .before .before .gather .ensures .1 .0) (c .before .before .before .before .before .before .before .before .before .before .before .before .before .before .gather .ensures .1 .1 .0) (c .before .before .before .before .before .before .before .before .before .before .before .before .before .before .gather .ensures .1 .1 .1 .0) _ (e .1 .1 .1 .1 .0), (c .before .before .before .before .before .before .before .before .before .before .before .before .before .before .gather .ensures .1 .1 .1 .1 .0, omega (arith, c .before .before .before .before .before .before .before .before .before .before .before .before .before .before .gather .ensures .1 .1 .1 .1 .1))))))
 
 pub play-spec : {M : Type 1} → statement M
 play-spec =
