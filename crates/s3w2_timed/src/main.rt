@@ -5,7 +5,7 @@ use sizes::QUEUE_BUFFER;
 
 fn with_buffers(ram: &mut [u8], queues: &mut [i16]) {
     let mut input = io::large_buffer();
-    let mut plain = [0u8; 16384];
+    let mut plain = [0u8; 66560];
     let mut text = [0u8; 67584];
     playing::play(&mut input, &mut plain, &mut text, ram, queues);
 }

@@ -61,7 +61,7 @@ rest-half (line ∷ lines) w number p =
     ∙ sym (append-assoc (printed w (parsedLine line)) (sounded after lines) (endText (played after lines .player) 0 0))
 
 -- ---- what is due is played
-abbrev PlayableDue : DueLine → Type 0
+abbrev pub PlayableDue : DueLine → Type 0
 PlayableDue d = Playable (d .line)
 
 pub dues-playable : (input : List ℕ) (k : Clockwork) (n : ℕ) (line : List ℕ) → noEnd line ≡ true → Every PlayableDue (scored k n line input .dues)

@@ -7,3 +7,4 @@ pub mod Printed
 pub mod AsPlain
 pub mod Orders
 pub mod Splits
+pub mod Framed

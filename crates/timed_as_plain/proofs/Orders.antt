@@ -75,12 +75,12 @@ scored-ordered (c ∷ cs) k n line =
     at Late e ih = tt
     at Crowded e ih = tt
 
-applied-is : (k : Clockwork) (stamp : ℕ) → applied k stamp ≡ clockwork stamp (suc (dueAlready k stamp))
+pub applied-is : (k : Clockwork) (stamp : ℕ) → applied k stamp ≡ clockwork stamp (suc (dueAlready k stamp))
 unfolding applied
 applied-is k stamp = refl
 
 -- ---- at most 64 lines a frame
-none-below : (dues : List DueLine) (k : Clockwork) (f : ℕ) → f < k .frames → Ordered k dues → dueAt f dues ≡ []
+pub none-below : (dues : List DueLine) (k : Clockwork) (f : ℕ) → f < k .frames → Ordered k dues → dueAt f dues ≡ []
 none-below [] k f h o = refl
 none-below (d ∷ dues) k f h o =
     ap (λ (b : Bool). cond b (d .line ∷ dueAt f dues) (dueAt f dues)) (ne-eqb (d .stamp) f (λ e. absurd (omega (arith, o .0 .0))))

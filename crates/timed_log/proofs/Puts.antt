@@ -1,13 +1,15 @@
 -- Lines written out, put into a buffer; the clockwork behind a line. Assumes nothing.
 use mathlib.Core.Path.{_≡_, refl, sym, ap, _∙_}
 use mathlib.Core.List.{List, [], _∷_, _++_}
-use Prim.Native.Nat.{ℕ, suc, _+_, _<_}
+use Prim.Native.Nat.{ℕ, suc, _+_, _-_, _≤_, _<_}
 use native.Mathlib.Numerals.{add-one}
 use native.Mathlib.Omega.{arith}
 use lib.Dec.{eqb}
+use lib.ListN.{length, getD, set, take}
+use lib.Seq.{sets, length-sets, length-take-le, take-all}
 use borrow.Author.Tests.{eq-eqb, ne-eqb}
 use Rattle.decimal.specs.Written.{Put, decimal}
-use Rattle.decimal.proofs.Writing.{put-append}
+use Rattle.decimal.proofs.Writing.{put-append, put-next}
 use Rattle.timed_log.specs.declared.Clockwork.{Clockwork}
 use Rattle.timed_log.specs.Lines.{frameMost, dueAlready}
 use Rattle.timed_log.specs.Unrolled.{clockLine, clockText, clockwork, applied}
@@ -45,3 +47,17 @@ module _ (k : Clockwork) (stamp : ℕ) where
   pub applied-on : (stamp ≡ k .frames → ⊥) → clockwork stamp 1 ≡ applied k stamp
   unfolding applied
   applied-on e = rw (ne-eqb stamp (k .frames) e)
+
+-- ---- a text copied byte by byte
+pub copied-next : (l m text : List ℕ) (at i x : ℕ) → at + length text ≤ length l → i < length text → x ≡ getD text i 0 → m ≡ sets l at (take i text) → set m (at + i) x ≡ sets l at (take (i + 1) text)
+copied-next l m text at i x h k e p =
+    let short : length (take i text) ≡ i = length-take-le i text (omega arith) in
+    let long : length m ≡ length l = ap length p ∙ length-sets l at (take i text) in
+    ap (set m (at + i)) e
+    ∙ put-next l m (set m (at + i) (getD text i 0)) text at (at + i) (at + i + 1) i k (omega (arith, short), p) (omega (arith, long), refl) .1
+
+pub copied-all : (l m text : List ℕ) (at i : ℕ) → length text ≤ i → m ≡ sets l at (take i text) → m ≡ sets l at text
+copied-all l m text at i h p = p ∙ ap (sets l at) (take-all i text h)
+
+pub copied-put : (l m text : List ℕ) (at : ℕ) → at ≤ length l → length text ≤ length l - at → m ≡ sets l at text → Put l m at text (at + length text)
+copied-put l m text at h k p = (omega arith, p)

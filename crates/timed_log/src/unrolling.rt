@@ -43,15 +43,40 @@ fn put_clock(out: &mut [u8], at: usize, frames: u32) -> usize
     decimal::put_byte(out, second, 10)
 }
 
+// Copies a text into out from `at` on.
+fn copy(out: &mut [u8], at: usize, text: &[u8])
+    requires { ⌜ at + length (now text) ≤ length (now out) ⌝ }
+    ensures { λ _. ⌜ now (out .exit) ≡ sets (now (out .entry)) at (now (text .entry)) ⌝ }
+{
+    let mut i = 0;
+    while i < text.len() {
+        out[at + i] = text[i];
+        i += 1;
+    }
+}
+
+// Puts a text as decimal::put_text does; where there is room it is copied.
+fn put_bytes(out: &mut [u8], at: usize, text: &[u8]) -> usize
+    ensures { λ r. ⌜ Put (now (out .entry)) (now (out .exit)) at (now (text .entry)) r ⌝ }
+{
+    if at <= out.len() {
+        if text.len() <= out.len() - at {
+            copy(out, at, text);
+            return at + text.len();
+        }
+    }
+    decimal::put_text(out, at, text)
+}
+
 // Puts the line that sounds the frames before a line, if there are any, and the line.
 fn put_line(out: &mut [u8], at: usize, gap: u32, line: &[u8]) -> usize
     ensures { λ r. ⌜ Put (now (out .entry)) (now (out .exit)) at (gapText gap ++ now (line .entry)) r ⌝ }
 {
     if gap == 0 {
-        return decimal::put_text(out, at, line);
+        return put_bytes(out, at, line);
     }
     let behind = put_clock(out, at, gap);
-    decimal::put_text(out, behind, line)
+    put_bytes(out, behind, line)
 }
 
 impl Clockwork {
