@@ -79,6 +79,7 @@ fn unplayed(run: Run, input: &mut [u8]) -> Run {
         Next::Line(_) => run.stopped(false),
         Next::Rest => refilled(run, input),
         Next::Bad(why) => bad(run, num::least(why as usize, 255) as u8),
+        Next::Refused(_) => run.stopped(false),
     }
 }
 
