@@ -1,10 +1,10 @@
 #!/usr/bin/env python3
 """s3w2_timed_logs.py SEED NUMBER: random logs with frame times; as a program, one that plays to its end.
 
-A log of `timed` is a score of s3w2_logs.py with a stamp before each line: its `C` lines are gaps, drawn from 0, 1, 999, 1,000, 1,001, 2,000 and small ones, and frames
-have up to 64 lines, many of them just so many. Some have one bad line, first, last or anywhere: malformed (17), of a register above 2,303 (27), with a stamp below the
-one before it (18), the 65th of its frame (19), alone or as many of these at once as one line can be; some end without byte 10. `plain` is the same log without stamps, its
-times written as `C` lines.
+A log is a score of s3w2_logs.py with a stamp before each line: its `C` lines are gaps, drawn from 0, 1, 999, 1,000, 1,001, 2,000 and
+small ones, and frames have up to 64 lines, many of them just so many. Half have one bad line, first, last or anywhere: malformed (17), of
+a register above 2,303 (27), with a stamp below the one before it (18), the 65th of its frame (19), alone or as many of these at once as
+one line can be; some end without byte 10. `plain` is the same log without stamps, its times written as `C` lines.
 """
 import random
 import sys
@@ -41,7 +41,9 @@ def is_bad(line):
     """Whether a line of a score is bad: it has one bad line at times."""
     fields = line.split(",")
     wide = {"W": 3, "M": 3, "R": 2, "P": 2, "V": 2}.get(fields[0])
-    if wide != len(fields) or not all(f.isdigit() and f.isascii() and len(f) < 11 and (f == "0" or f[0] != "0") for f in fields[1:]):
+    if wide != len(fields):
+        return True
+    if not all(f.isdigit() and f.isascii() and len(f) < 11 and (f == "0" or f[0] != "0") for f in fields[1:]):
         return True
     if fields[0] == "V":
         return int(fields[1]) > 4
