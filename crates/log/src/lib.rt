@@ -9,7 +9,8 @@ pub use text::put_frames;
 pub use text::put_peak;
 pub use text::put_read_back;
 
-// The numbers of bad lines: document 01's of a malformed one, document 02's of one that names a register that is not there.
+// The numbers of bad lines (docs/SPECIFICATION.md, section 12): of a malformed one, and of one that names a register that is not
+// there.
 pub const MALFORMED: u8 = 17;
 
 pub const UNMAPPED: u8 = 27;

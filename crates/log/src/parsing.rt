@@ -127,7 +127,7 @@ fn version_of(one: One) -> Line
 }
 
 impl Line {
-    // The number of a bad line, document 01's or document 02's; 0 where it is none.
+    // The number of a bad line (docs/SPECIFICATION.md, section 12); 0 where it is none.
     pub fn number(self) -> u8
         ensures { λ r. ⌜ r ≡ getD (numberOf self) 0 0 ⌝ }
     {

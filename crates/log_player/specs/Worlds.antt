@@ -29,6 +29,6 @@ freshPlayer ram = record { chip = madeCalled ram «V3_1» .chip; left = 0; right
 unfoldable pub madePlayer : ℕ → Made
 madePlayer ram = record { player = freshPlayer ram; answer = madeCalled ram «V3_1» .answer }
 
--- document 01's: 65,536 bytes of zeros
+-- the log program's (docs/SPECIFICATION.md, section 11): 65,536 bytes of zeros
 abbrev pub freshWorld : World
 freshWorld = world (freshPlayer 65536) (replicate 65536 0) (replicate queueBuffer (pos 0))

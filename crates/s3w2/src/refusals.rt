@@ -1,4 +1,4 @@
-// Why a call is turned away, in the order of document 01's table: RAM length, queue buffer, state, stem buffer.
+// Why a call is turned away, in the order of docs/SPECIFICATION.md, section 12: RAM length, queue buffer, state, stem buffer.
 ghost use mathlib.Core.Path.{_≡_};
 ghost use lib.Dec.{eqb};
 ghost use Prim.Native.Nat.{_*_};
@@ -40,7 +40,7 @@ fn is_stem_buffer(length: usize, frames: usize) -> bool
 }
 
 impl Answer {
-    // Document 01's number of a refusal; 0 where it is none.
+    // The number of a refusal (docs/SPECIFICATION.md, section 12); 0 where it is none.
     pub fn number(self) -> u8
         ensures { λ r. ⌜ r ≡ getD (numberOf self) 0 0 ⌝ }
     {

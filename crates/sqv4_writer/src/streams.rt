@@ -1,4 +1,4 @@
-// The call: what it refuses, in document 02's order, and the file.
+// The call: what it refuses, in the order of docs/SPECIFICATION.md, section 12, and the file.
 ghost use mathlib.Core.Path.{_≡_};
 ghost use lib.ListN.{length, getD};
 ghost use Prim.Native.Nat.{_≤_};
@@ -91,7 +91,7 @@ pub fn write_stream(
 }
 
 impl StreamAnswer {
-    // Document 02's number of a refusal; 0 where it is none.
+    // The number of a refusal (docs/SPECIFICATION.md, section 12); 0 where it is none.
     pub fn number(self) -> u8
         ensures { λ r. ⌜ r ≡ getD (numberOf self) 0 0 ⌝ }
     {

@@ -9,7 +9,7 @@ use log_player::Next;
 use log_player::Player;
 use s3w2::Answer;
 
-// The numbers of lines that come too late, and that are more than a frame may have: document 02's.
+// The numbers of lines that come too late, and that are more than a frame may have (docs/SPECIFICATION.md, section 12).
 pub const LATE: u8 = 18;
 
 pub const CROWDED: u8 = 19;
