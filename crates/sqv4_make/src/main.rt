@@ -1,5 +1,6 @@
 // sqv4_make: makes a mono SQV4 file of version 3. Standard input has a first line `variant,rate,volume,index` and then a line for each sample.
-// The file goes to standard output; or `refused` and the number (docs/SPECIFICATION.md, section 12), or `bad`, the number of the first line that is no such line, 17.
+// The file goes to standard output; or `refused` and the number (docs/SPECIFICATION.md, section 12), or `bad`, the number of the first line
+// that is no such line, 17.
 ghost use mathlib.Core.Path.{_≡_};
 ghost use lib.ListN.{length};
 ghost use Rattle.sqv4_make.specs.Making.{mostSamples};
