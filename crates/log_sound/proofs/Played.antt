@@ -10,16 +10,16 @@ use Rattle.s3w2.specs.declared.Called.{Called}
 use Rattle.s3w2.specs.Plays.{Playing, playing, playCalled, playLeft}
 use Rattle.log_sound.specs.declared.Gathered.{Gathered}
 use Rattle.log_sound.specs.declared.Sounded.{Sounded}
-use Rattle.log_sound.specs.Gathering.{Gathering, toldOf}
-use Rattle.log_sound.specs.Sounding.{linesFrom, soundedCalled, soundedLeft, soundedStems, soundedOf}
+use Rattle.log_sound.specs.Gathering.{Gathering, gatheredTold}
+use Rattle.log_sound.specs.Sounding.{linesTaken, soundedCalled, soundedLeft, soundedStems, soundedOf}
 
 module _ (chip : Chip) (input : List ℕ) (from : ℕ) (ram : List ℕ) (queues stems : List ℤ) where
   -- what `play` is handed
   abbrev pub handed : Gathered → List ℕ → Playing
   handed r values = playing chip ram queues (take (r .count) values) (take (16 * r .frames) stems)
 
-  module _ (r : Gathered) (kinds addresses values : List ℕ) (q : r ≡ toldOf (linesFrom input from stems)) (k : kinds ≡ linesFrom input from stems .kinds)
-      (a : addresses ≡ linesFrom input from stems .addresses) (v : values ≡ linesFrom input from stems .values) where
+  module _ (r : Gathered) (kinds addresses values : List ℕ) (q : r ≡ gatheredTold (linesTaken input from stems)) (k : kinds ≡ linesTaken input from stems .kinds)
+      (a : addresses ≡ linesTaken input from stems .addresses) (v : values ≡ linesTaken input from stems .values) where
     pub called-is : (c : Called) → c ≡ playCalled (take (r .count) kinds) (take (r .count) addresses) (handed r values) → c ≡ soundedCalled chip input from ram queues stems
     unfolding soundedCalled
     called-is c e = rw (q, k, a, v) at e

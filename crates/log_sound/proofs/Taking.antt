@@ -17,7 +17,7 @@ use Rattle.log_player.specs.Runs.{isLine}
 use Rattle.log_player.proofs.Stops.{first-short}
 use Rattle.log_player.specs.declared.ListedCall.{ListedCall}
 use Rattle.log_sound.specs.declared.Gathered.{Gathered}
-use Rattle.log_sound.specs.Gathering.{framesOf, Gathering, gathering, callThere, takes, withLine, gathered, toldOf}
+use Rattle.log_sound.specs.Gathering.{framesMade, Gathering, gathering, callThere, takes, withLine, gathered, gatheredTold}
 
 -- ---- whether there is a line
 no-line : (b : Bool) (why : ℕ) → isLine (cond b Rest (Bad why)) ≡ false
@@ -57,11 +57,11 @@ module _ (input : List ℕ) (room : ℕ) where
   unfolding takes
   not-taken g e = rw e
 
-  pub no-room : (g : Gathering) (call : ListedCall) (more : ℕ) → call ≡ callThere input room g → more ≡ framesOf call → isLine (nextOf (drop (g .from) input) (g .from)) ≡ true → room < g .frames + more → takes input room g ≡ false
+  pub no-room : (g : Gathering) (call : ListedCall) (more : ℕ) → call ≡ callThere input room g → more ≡ framesMade call → isLine (nextOf (drop (g .from) input) (g .from)) ≡ true → room < g .frames + more → takes input room g ≡ false
   unfolding takes
   no-room g call more e f w h = rw (w, ← e, ← f) (lt-leb (g .frames + more) room h)
 
-  pub has-room : (g : Gathering) (call : ListedCall) (more : ℕ) → call ≡ callThere input room g → more ≡ framesOf call → isLine (nextOf (drop (g .from) input) (g .from)) ≡ true → g .frames + more ≤ room → takes input room g ≡ true
+  pub has-room : (g : Gathering) (call : ListedCall) (more : ℕ) → call ≡ callThere input room g → more ≡ framesMade call → isLine (nextOf (drop (g .from) input) (g .from)) ≡ true → g .frames + more ≤ room → takes input room g ≡ true
   unfolding takes
   has-room g call more e f w h = rw (w, ← e, ← f) (le-leb (g .frames + more) room h)
 
@@ -82,11 +82,11 @@ module _ (input : List ℕ) (room : ℕ) where
 -- ---- what is left and told
 abbrev pub Leaves : ℕ → Gathered → List ℕ → List ℕ → List ℕ → Gathering → Type 0
 Leaves room r kinds addresses values h =
-    (r ≡ toldOf h) × ((kinds ≡ h .kinds) × ((addresses ≡ h .addresses) × ((values ≡ h .values) × ((r .count ≤ 256) × (r .frames ≤ room)))))
+    (r ≡ gatheredTold h) × ((kinds ≡ h .kinds) × ((addresses ≡ h .addresses) × ((values ≡ h .values) × ((r .count ≤ 256) × (r .frames ≤ room)))))
 
-pub leaves : (room : ℕ) (r : Gathered) (g h : Gathering) → g ≡ h → r ≡ toldOf g → g .count ≤ 256 → g .frames ≤ room → Leaves room r (g .kinds) (g .addresses) (g .values) h
+pub leaves : (room : ℕ) (r : Gathered) (g h : Gathering) → g ≡ h → r ≡ gatheredTold g → g .count ≤ 256 → g .frames ≤ room → Leaves room r (g .kinds) (g .addresses) (g .values) h
 leaves room r g h e q b f = (
-  q ∙ ap toldOf e,
+  q ∙ ap gatheredTold e,
   (
     ap (λ (x : Gathering). x .kinds) e,
     (
@@ -103,7 +103,7 @@ leaves room r g h e q b f = (
 pub not-less : {a b : ℕ} → a ≡ b → a < b → ⊥
 not-less e h = omega arith
 
-pub taken-on : (input : List ℕ) (room n m : ℕ) (g h : Gathering) (call : ListedCall) (stop more : ℕ) → stop ≡ g .from + length (firstLine (drop (g .from) input)) → call ≡ callThere input room g → more ≡ framesOf call
+pub taken-on : (input : List ℕ) (room n m : ℕ) (g h : Gathering) (call : ListedCall) (stop more : ℕ) → stop ≡ g .from + length (firstLine (drop (g .from) input)) → call ≡ callThere input room g → more ≡ framesMade call
     → n ≡ suc m → takes input room g ≡ true → gathered input room n g ≡ h
     → gathered input room m (gathering (g .count + 1) (g .frames + more) (stop + 1) (set (g .kinds) (g .count) (call .kind)) (set (g .addresses) (g .count) (call .address)) (set (g .values) (g .count) (call .value))) ≡ h
 unfolding withLine

@@ -13,8 +13,8 @@ use Rattle.log_player.specs.Runs.{isLine}
 use Rattle.log_sound.specs.declared.Gathered.{Gathered}
 
 -- the frames that a call clocks
-unfoldable pub framesOf : ListedCall → ℕ
-framesOf call = clockedAs (askedOf (call .kind)) (call .address)
+unfoldable pub framesMade : ListedCall → ℕ
+framesMade call = clockedAs (askedOf (call .kind)) (call .address)
 
 -- so many lines taken, which clock so many frames, the place behind them, and the lists of their calls
 pub record Gathering : Type 0 where
@@ -37,12 +37,12 @@ module _ (input : List ℕ) (room : ℕ) where
 
   -- whether the line there is taken: it is whole, it is not bad, and there is room for its frames
   unfoldable pub takes : Gathering → Bool
-  takes g = cond (isLine (nextOf (drop (g .from) input) (g .from))) (leb (g .frames + framesOf (callThere g)) room) false
+  takes g = cond (isLine (nextOf (drop (g .from) input) (g .from))) (leb (g .frames + framesMade (callThere g)) room) false
 
   -- with it
   unfoldable pub withLine : Gathering → Gathering
   withLine g =
-      gathering (suc (g .count)) (g .frames + framesOf (callThere g)) (g .from + length (lineThere g) + 1)
+      gathering (suc (g .count)) (g .frames + framesMade (callThere g)) (g .from + length (lineThere g) + 1)
       (set (g .kinds) (g .count) (callThere g .kind)) (set (g .addresses) (g .count) (callThere g .address)) (set (g .values) (g .count) (callThere g .value))
 
   -- line after line, at most so many
@@ -58,5 +58,5 @@ abbrev pub gatheredAs : ℕ → ℕ → ℕ → Gathered
 gatheredAs count frames from = record { count = count; frames = frames; from = from }
 
 -- what is told of it
-abbrev pub toldOf : Gathering → Gathered
-toldOf g = gatheredAs (g .count) (g .frames) (g .from)
+abbrev pub gatheredTold : Gathering → Gathered
+gatheredTold g = gatheredAs (g .count) (g .frames) (g .from)

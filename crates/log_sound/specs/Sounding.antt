@@ -11,30 +11,30 @@ use Rattle.log_sound.specs.declared.Sounded.{Sounded}
 use Rattle.log_sound.specs.Gathering.{Gathering, listFrom}
 
 -- the lines from a place on that are played: at most 256, of no more frames than there are stems for
-abbrev pub linesFrom : List ℕ → ℕ → List ℤ → Gathering
-linesFrom input from stems = listFrom input (length stems / stemsPerFrame) from (replicate 256 0) (replicate 256 0) (replicate 256 0)
+abbrev pub linesTaken : List ℕ → ℕ → List ℤ → Gathering
+linesTaken input from stems = listFrom input (length stems / stemsPerFrame) from (replicate 256 0) (replicate 256 0) (replicate 256 0)
 
 module _ (chip : Chip) (input : List ℕ) (from : ℕ) (ram : List ℕ) (queues stems : List ℤ) where
   -- the chip and what is lent to it for these lines: a stem buffer of their frames
-  abbrev pub begins : Gathering → Playing
-  begins g = playing chip ram queues (take (g .count) (g .values)) (take (stemsPerFrame * g .frames) stems)
+  abbrev pub listBegins : Gathering → Playing
+  listBegins g = playing chip ram queues (take (g .count) (g .values)) (take (stemsPerFrame * g .frames) stems)
 
   unfoldable pub soundedCalled : Called
   soundedCalled =
-      let g = linesFrom input from stems in
-      playCalled (take (g .count) (g .kinds)) (take (g .count) (g .addresses)) (begins g)
+      let g = linesTaken input from stems in
+      playCalled (take (g .count) (g .kinds)) (take (g .count) (g .addresses)) (listBegins g)
 
   -- what is lent, after it
   unfoldable pub soundedLeft : Playing
   soundedLeft =
-      let g = linesFrom input from stems in
-      playLeft (take (g .count) (g .kinds)) (take (g .count) (g .addresses)) (begins g)
+      let g = linesTaken input from stems in
+      playLeft (take (g .count) (g .kinds)) (take (g .count) (g .addresses)) (listBegins g)
 
   -- the stems: those of the frames, and behind them what stood there
   unfoldable pub soundedStems : List ℤ
-  soundedStems = soundedLeft .stems ++ drop (stemsPerFrame * linesFrom input from stems .frames) stems
+  soundedStems = soundedLeft .stems ++ drop (stemsPerFrame * linesTaken input from stems .frames) stems
 
   unfoldable pub soundedOf : Sounded
   soundedOf =
-      let g = linesFrom input from stems in
+      let g = linesTaken input from stems in
       record { chip = soundedCalled .chip; answer = soundedCalled .answer; count = g .count; frames = g .frames; from = g .from }

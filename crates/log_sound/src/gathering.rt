@@ -3,7 +3,7 @@ ghost use mathlib.Core.Path.{_≡_};
 ghost use Prim.Native.Nat.{_≤_};
 ghost use lib.ListN.{drop, replicate};
 ghost use Rattle.log_player.specs.Steps.{nextOf};
-ghost use Rattle.log_sound.specs.Gathering.{listFrom, gatheredAs, toldOf};
+ghost use Rattle.log_sound.specs.Gathering.{listFrom, gatheredAs, gatheredTold};
 use crate::Gathered;
 use frames::clocked_by;
 use log_player::Next;
@@ -56,7 +56,7 @@ pub(crate) fn gather(
     values: &mut [u8; 256],
 ) -> Gathered
     ensures result { λ r. ⌜ r
-        ≡ toldOf (listFrom (now (input .entry)) room from (now (kinds .entry)) (now (addresses .entry)) (now (values .entry))) ⌝ }
+        ≡ gatheredTold (listFrom (now (input .entry)) room from (now (kinds .entry)) (now (addresses .entry)) (now (values .entry))) ⌝ }
     ensures kinds { λ _. ⌜ now (kinds .exit)
         ≡ listFrom (now (input .entry)) room from (now (kinds .entry)) (now (addresses .entry)) (now (values .entry)) .kinds ⌝ }
     ensures addresses { λ _. ⌜ now (addresses .exit)
@@ -94,7 +94,7 @@ pub(crate) fn gather(
 
 // The same without the calls: how many lines they are, how many frames they clock, and the place behind them.
 pub fn pass(input: &[u8], from: usize, room: usize) -> Gathered
-    ensures result { λ r. ⌜ r ≡ toldOf (listFrom (now (input .entry)) room from (replicate 256 0) (replicate 256 0) (replicate 256 0)) ⌝ }
+    ensures result { λ r. ⌜ r ≡ gatheredTold (listFrom (now (input .entry)) room from (replicate 256 0) (replicate 256 0) (replicate 256 0)) ⌝ }
     ensures bound { λ r. ⌜ (r .count ≤ 256) × (r .frames ≤ room) ⌝ }
 {
     let mut kinds = [0u8; 256];

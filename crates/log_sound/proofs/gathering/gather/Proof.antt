@@ -1,5 +1,5 @@
 use Rattle.log_sound.proofs.Taking.{good-by, next-bad, not-whole, is-bad, is-whole, not-less, not-taken, no-room, has-room, none-taken, all-taken, taken-on, leaves}
-use Rattle.log_sound.specs.Gathering.{framesOf, gathering, gathered, listFrom}
+use Rattle.log_sound.specs.Gathering.{framesMade, gathering, gathered, listFrom}
 use Rattle.log_player.specs.Batches.{listedCall}
 use Rattle.log_player.proofs.Stops.{next-line, line-part}
 use Rattle.log.specs.Lines.{parsedLine}
@@ -65,7 +65,7 @@ of-requires-3 : tie.Need-of-requires-3 Inv-loop μ-loop
 of-requires-3 c κs = search needs
 
 returns-3 : tie.Need-returns-3 Inv-loop μ-loop
-unfolding framesOf
+unfolding framesMade
 returns-3 c = let l : c .before .before .before .before .before .before .before .before .before .before .before .loop .place < length (c .before .before .before .before .before .before .before .before .before .before .before .before .before .args .input .now) = omega (arith, c .before .before .before .before .before .before .before .before .before .line-end .ensures, c .before .before .before .before .before .before .before .before .if1 .left) in
     let w = is-whole _ _ (next-line (c .before .before .before .before .before .before .before .before .before .before .before .before .before .args .input .now) (c .before .before .before .before .before .before .before .before .before .before .before .loop .place) _ (c .before .before .before .before .before .before .before .before .before .line-end .ensures) _ l (λ e. not-less e (c .before .before .before .before .before .before .before .before .if1 .left)) (c .before .before .before .before .before .before .parse .ensures ∙ ap parsedLine (line-part (c .before .before .before .before .before .before .before .before .before .before .before .before .before .args .input .now) (c .before .before .before .before .before .before .before .before .before .before .before .loop .place) _ (c .before .before .before .before .before .before .before .before .before .line-end .ensures))) (good-by _ (c .before .before .before .before .before .before .parse .result) (c .before .before .before .before .before .number .ensures) (c .before .before .before .before .if2 .left))) in
     leaves _ _ (gathering (c .before .before .before .before .before .before .before .before .before .before .before .loop .count) (c .before .before .before .before .before .before .before .before .before .before .before .loop .frames) (c .before .before .before .before .before .before .before .before .before .before .before .loop .place) (c .before .before .before .before .before .before .before .before .before .before .before .loop .kinds) (c .before .before .before .before .before .before .before .before .before .before .before .loop .addresses) (c .before .before .before .before .before .before .before .before .before .before .before .loop .values)) _ (none-taken (c .before .before .before .before .before .before .before .before .before .before .before .before .before .args .input .now) (c .before .before .before .before .before .before .before .before .before .before .before .before .before .args .room) (256 - c .before .before .before .before .before .before .before .before .before .before .before .loop .count) _ _ (no-room (c .before .before .before .before .before .before .before .before .before .before .before .before .before .args .input .now) (c .before .before .before .before .before .before .before .before .before .before .before .before .before .args .room) (gathering (c .before .before .before .before .before .before .before .before .before .before .before .loop .count) (c .before .before .before .before .before .before .before .before .before .before .before .loop .frames) (c .before .before .before .before .before .before .before .before .before .before .before .loop .place) (c .before .before .before .before .before .before .before .before .before .before .before .loop .kinds) (c .before .before .before .before .before .before .before .before .before .before .before .loop .addresses) (c .before .before .before .before .before .before .before .before .before .before .before .loop .values)) _ _ (c .before .before .before .listed-call .ensures ∙ ap listedCall (c .before .before .before .before .before .before .parse .ensures ∙ ap parsedLine (line-part (c .before .before .before .before .before .before .before .before .before .before .before .before .before .args .input .now) (c .before .before .before .before .before .before .before .before .before .before .before .loop .place) _ (c .before .before .before .before .before .before .before .before .before .line-end .ensures)))) (c .before .before .clocked-by .ensures .0) w (omega arith)) (c .before .before .before .before .before .before .before .before .before .before .before .loop .inv .2)) (c .of3 .ensures) (c .before .before .before .before .before .before .before .before .before .before .before .loop .inv .0) (c .before .before .before .before .before .before .before .before .before .before .before .loop .inv .1)
@@ -95,7 +95,7 @@ loop-less : tie.Need-loop-less Inv-loop μ-loop
 loop-less c = search needs
 
 loop-again : tie.Need-loop-again Inv-loop μ-loop
-unfolding framesOf
+unfolding framesMade
 loop-again c = let l : c .before .before .before .before .before .before .before .before .before .before .loop .place < length (c .before .before .before .before .before .before .before .before .before .before .before .before .args .input .now) = omega (arith, c .before .before .before .before .before .before .before .before .line-end .ensures, c .before .before .before .before .before .before .before .if1 .left) in
     let w = is-whole _ _ (next-line (c .before .before .before .before .before .before .before .before .before .before .before .before .args .input .now) (c .before .before .before .before .before .before .before .before .before .before .loop .place) _ (c .before .before .before .before .before .before .before .before .line-end .ensures) _ l (λ e. not-less e (c .before .before .before .before .before .before .before .if1 .left)) (c .before .before .before .before .before .parse .ensures ∙ ap parsedLine (line-part (c .before .before .before .before .before .before .before .before .before .before .before .before .args .input .now) (c .before .before .before .before .before .before .before .before .before .before .loop .place) _ (c .before .before .before .before .before .before .before .before .line-end .ensures))) (good-by _ (c .before .before .before .before .before .parse .result) (c .before .before .before .before .number .ensures) (c .before .before .before .if2 .left))) in
     let call = c .before .before .listed-call .ensures ∙ ap listedCall (c .before .before .before .before .before .parse .ensures ∙ ap parsedLine (line-part (c .before .before .before .before .before .before .before .before .before .before .before .before .args .input .now) (c .before .before .before .before .before .before .before .before .before .before .loop .place) _ (c .before .before .before .before .before .before .before .before .line-end .ensures))) in
