@@ -1,11 +1,10 @@
 -- A timed log is the plain log of its lines with the times written as `C` lines; at a bad line it stops. Assumes nothing.
-use mathlib.Core.Path.{_≡_, refl, sym, ap, ap₂, _∙_, subst}
+use mathlib.Core.Path.{_≡_, refl, sym, ap, ap₂, _∙_}
 use mathlib.Core.Bool.{Bool, true, false, cond}
 use mathlib.Core.List.{List, [], _∷_, _++_, append-assoc, append-nil}
-use Prim.Native.Nat.{ℕ, zero, suc, _+_, _-_, _≤_, _<_}
+use Prim.Native.Nat.{ℕ, suc, _+_, _-_}
 use native.Mathlib.Omega.{arith}
 use lib.Dec.{eqb, ltb}
-use lib.ListN.{length, drop}
 use Rattle.num.proofs.Choice.{cond-by, never}
 use Rattle.log.specs.Lines.{parsedLine, badNumber, isBad}
 use Rattle.log.specs.Texts.{badLine}
@@ -20,7 +19,7 @@ use Rattle.timed_log.specs.declared.Clockwork.{Clockwork}
 use Rattle.timed_log.specs.Lines.{dueOf, judged}
 use Rattle.timed_log.specs.Unrolled.{clockLine, noFrames, applied}
 use Rattle.timed_log.proofs.Judging.{due-is, taken-is}
-use Rattle.timed_as_plain.specs.Scores.{DueLine, End, over, stop, Score, ends, lineScored, scored, score, gapLines, unrolledLines, lastLines, allLines, plainLog, sounded, closing, leftText, timedText}
+use Rattle.timed_as_plain.specs.Scores.{DueLine, End, over, lineScored, scored, score, gapLines, unrolledLines, lastLines, allLines, plainLog, sounded, closing, timedText}
 use Rattle.timed_as_plain.proofs.Lines.{no-end-append, no-end-drop, clock-playable, every-append, gap-playable}
 use Rattle.timed_as_plain.proofs.Plays.{played-append, sounded-append}
 

@@ -1,12 +1,11 @@
 -- A timed log frame by frame. Assumes a chip that lines can reach.
-use mathlib.Core.Path.{_≡_, refl, sym, ap, ap₂, _∙_, subst}
+use mathlib.Core.Path.{_≡_, refl, sym, ap, _∙_, subst}
 use mathlib.Core.Bool.{Bool, true, false, cond}
 use mathlib.Core.List.{List, [], _∷_, _++_, append-assoc, append-nil}
 use Prim.Native.Nat.{ℕ, zero, suc, _+_, _-_, _≤_, _<_}
 use native.Mathlib.Omega.{arith}
 use native.Mathlib.Decide.{decLe}
 use lib.Dec.{eqb}
-use lib.ListN.{length}
 use borrow.Author.Tests.{eq-eqb, ne-eqb, eqb-true, eqb-false}
 use Rattle.log.specs.declared.Line.{Line}
 use Rattle.log.specs.declared.Line.the-variants.{Clock}
@@ -15,7 +14,7 @@ use Rattle.log_player.specs.Worlds.{World, freshWorld}
 use Rattle.log_player.specs.Applied.{afterLine, printed}
 use Rattle.plain_chip.specs.Lists.{Every}
 use Rattle.resume.proofs.Steps.{HeldMachine}
-use Rattle.log_resume.specs.Cuts.{Playable, played, machineOf}
+use Rattle.log_resume.specs.Cuts.{played, machineOf}
 use Rattle.log_resume.proofs.Fresh.{fresh-held}
 use Rattle.log_resume.proofs.Cuts.{held-line, held-played}
 use Rattle.timed_log.specs.declared.Clockwork.{Clockwork}
@@ -26,7 +25,7 @@ use Rattle.timed_as_plain.proofs.Lines.{clock-line, clock-playable, gap
 use Rattle.timed_as_plain.proofs.Plays.{played-append, sounded-append}
 use Rattle.timed_as_plain.proofs.AsPlain.{PlayableDue, dues-playable}
 use Rattle.timed_as_plain.proofs.Orders.{Ordered, scored-ordered, applied-is, none-below}
-use Rattle.timed_as_plain.proofs.Splits.{Splits, clock-splits, held-clock}
+use Rattle.timed_as_plain.proofs.Splits.{clock-splits, held-clock}
 
 abbrev Held : World → Type 0
 Held w = HeldMachine (machineOf w)

@@ -1,20 +1,17 @@
 -- The lines of a timed log's plain log are played. Assumes nothing.
-use mathlib.Core.Path.{_≡_, refl, sym, ap, _∙_, subst}
+use mathlib.Core.Path.{_≡_, refl, sym, ap, _∙_}
 use mathlib.Core.Bool.{Bool, true, false, cond}
 use mathlib.Core.List.{List, [], _∷_, _++_, append-nil}
-use Prim.Native.Nat.{ℕ, zero, suc, _+_, _-_, _/_, _%_, _^_, _≤_, _<_}
+use Prim.Native.Nat.{ℕ, zero, suc, _+_, _-_, _/_, _%_, _≤_, _<_}
 use native.Mathlib.Omega.{arith}
 use native.Mathlib.Decide.{decLe}
-use lib.Dec.{eqb, leb, ltb}
-use lib.ListN.{length, getD, drop, replicate}
-use borrow.Author.Tests.{eq-eqb, ne-eqb, eqb-false, le-leb, ltb-true}
+use lib.Dec.{eqb, ltb}
+use lib.ListN.{length, drop, replicate}
+use borrow.Author.Tests.{eq-eqb, ne-eqb, eqb-false, le-leb}
 use Rattle.num.proofs.Choice.{cond-by, never}
 use Rattle.decimal.specs.Written.{digitsIn, decimal}
-use Rattle.decimal.specs.Read.{naturalAt}
 use Rattle.decimal.specs.declared.TakenNatural.{TakenNatural}
-use Rattle.decimal.specs.declared.TakenNatural.the-variants.{Natural}
 use Rattle.decimal.proofs.RoundTrip.{natural-back}
-use Rattle.log.specs.declared.Line.{Line}
 use Rattle.log.specs.declared.Line.the-variants.{Clock}
 use Rattle.log.specs.Lines.{oneOf, oneAt, clockOf, parsedLine, isBad}
 use Rattle.log_player.specs.Steps.{firstLine}
@@ -101,18 +98,15 @@ pub gap-small : (gap : ℕ) → (gap ≡ 0 → ⊥) → gap ≤ clockMost → ga
 unfolding gapLines
 gap-small gap n h =
     elim (decLe clockMost gap) [
-      | yes e ↦ ap gapLines′ (let k : gap ≡ clockMost = omega arith in k) ∙ ap (λ (k : ℕ). clockLine k ∷ []) (let k : clockMost ≡ gap = omega arith in k)
-      | no e ↦ rw (less (gap / clockMost) (omega arith), eqs gap (omega arith)) (ap (λ (b : Bool). cond b [] (clockLine gap ∷ [])) (ne-eqb gap 0 n))
+      | yes e ↦ ap lines (let k : gap ≡ clockMost = omega arith in k) ∙ ap (λ (k : ℕ). clockLine k ∷ []) (let k : clockMost ≡ gap = omega arith in k)
+      | no e ↦
+          let q : gap / clockMost ≡ 0 = omega arith in
+          let r : gap % clockMost ≡ gap = omega arith in
+          rw (q, r) (ap (λ (b : Bool). cond b [] (clockLine gap ∷ [])) (ne-eqb gap 0 n))
     ]
   where
-    gapLines′ : ℕ → List (List ℕ)
-    gapLines′ g = replicate (g / clockMost) (clockLine clockMost) ++ cond (eqb (g % clockMost) 0) [] (clockLine (g % clockMost) ∷ [])
-
-    less : (q : ℕ) → q ≡ 0 → q ≡ 0
-    less q e = e
-
-    eqs : (g : ℕ) → g < clockMost → g % clockMost ≡ g
-    eqs g k = omega arith
+    lines : ℕ → List (List ℕ)
+    lines g = replicate (g / clockMost) (clockLine clockMost) ++ cond (eqb (g % clockMost) 0) [] (clockLine (g % clockMost) ∷ [])
 
 pub gap-more : (gap : ℕ) → clockMost < gap → gapLines gap ≡ clockLine clockMost ∷ gapLines (gap - clockMost)
 unfolding gapLines

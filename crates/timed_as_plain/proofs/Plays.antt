@@ -1,21 +1,21 @@
 -- A run over lines that are written out plays some of them. Assumes nothing.
-use mathlib.Core.Path.{_≡_, refl, sym, ap, ap₂, _∙_, subst}
+use mathlib.Core.Path.{_≡_, refl, sym, ap, _∙_, subst}
 use mathlib.Core.Bool.{Bool, true, false, cond}
-use mathlib.Core.List.{List, [], _∷_, _++_, append-assoc, append-nil}
-use Prim.Native.Nat.{ℕ, zero, suc, _+_, _-_, _≤_, _<_}
+use mathlib.Core.List.{List, [], _∷_, _++_, append-assoc}
+use Prim.Native.Nat.{ℕ, suc, _+_, _-_}
 use native.Mathlib.Omega.{arith}
-use lib.Dec.{eqb, leb}
+use lib.Dec.{eqb}
 use lib.ListN.{length, drop, length-append}
-use lib.Seq.{drop-drop, drop-append-seam, drop-append-add}
+use lib.Seq.{drop-drop, drop-append-add}
 use borrow.Author.Tests.{ne-eqb}
-use Rattle.num.proofs.Choice.{cond-by, never}
-use Rattle.log.specs.Lines.{parsedLine, isBad}
+use Rattle.num.proofs.Choice.{never}
+use Rattle.log.specs.Lines.{parsedLine}
 use Rattle.log_player.specs.declared.Next.{Next}
-use Rattle.log_player.specs.declared.Next.the-variants.{Line, Rest, Bad, Refused}
+use Rattle.log_player.specs.declared.Next.the-variants.{Line, Rest}
 use Rattle.log_player.specs.Worlds.{World}
 use Rattle.log_player.specs.Applied.{afterLine, printed}
 use Rattle.log_player.specs.Steps.{firstLine, nextOf}
-use Rattle.log_player.specs.Runs.{hasRoom, Spot, spot, spotBehind, isLine, foundBy, playsLine, Run, stopText, stopsAt, runFrom, refusedBy, logRun}
+use Rattle.log_player.specs.Runs.{hasRoom, Spot, spot, isLine, Run, stopsAt, runFrom}
 use Rattle.log_player.proofs.Spots.{plays-line, plays-none, plays-full, found-there, found-full, run-next, run-stops}
 use Rattle.plain_chip.specs.Lists.{Every}
 use Rattle.log_resume.specs.Cuts.{noEnd, Playable, half, played}

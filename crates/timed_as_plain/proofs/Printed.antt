@@ -2,30 +2,29 @@
 use mathlib.Core.Path.{_≡_, refl, sym, ap, ap₂, _∙_, subst}
 use mathlib.Core.Bool.{Bool, true, false, cond}
 use mathlib.Core.List.{List, [], _∷_, _++_, append-assoc, append-nil}
-use Prim.Native.Nat.{ℕ, zero, suc, _+_, _≤_, _<_}
+use Prim.Native.Nat.{ℕ, _+_}
 use native.Mathlib.Omega.{arith}
 use lib.Dec.{eqb, ltb}
-use lib.ListN.{length, drop}
+use lib.ListN.{length}
 use borrow.Author.Tests.{eqb-true, eqb-false, ne-eqb}
 use Rattle.num.proofs.Choice.{cond-by, never}
 use Rattle.decimal.specs.Written.{digitsIn, decimal}
 use Rattle.log.specs.Texts.{badLine, peakLine}
 use Rattle.log_player.specs.declared.Next.{Next}
-use Rattle.log_player.specs.declared.Next.the-variants.{Line, Rest, Bad, Refused}
+use Rattle.log_player.specs.declared.Next.the-variants.{Line, Rest, Bad}
 use Rattle.log_player.specs.Worlds.{World, freshWorld}
 use Rattle.log_player.specs.Logs.{endText}
-use Rattle.log_player.specs.Runs.{spot, isLine, Run, stopsAt, runFrom, refusedBy, logRun}
+use Rattle.log_player.specs.Runs.{spot, isLine, Run, runFrom, refusedBy, logRun}
 use Rattle.log_player.specs.Parts.{joined}
-use Rattle.plain_chip.specs.Lists.{Every}
-use Rattle.log_resume.specs.Cuts.{Playable, half, played}
+use Rattle.log_resume.specs.Cuts.{half, played}
 use Rattle.timed_log.specs.declared.TimedLine.the-variants.{Malformed}
 use Rattle.timed_log.specs.declared.Clockwork.{Clockwork}
 use Rattle.timed_log.specs.Lines.{badNumber}
 use Rattle.timed_log.specs.Unrolled.{clockLine, noFrames}
 use Rattle.timed_log.specs.Turns.{Stand, stand, Turn, turnOver}
 use Rattle.timed_log.specs.Ends.{lastText, soundsLast, runNone, lastRun, toldLast, lastTold}
-use Rattle.timed_as_plain.specs.Scores.{Score, over, stop, ends, scored, lastLines, sounded, closing, leftText, timedText}
-use Rattle.timed_as_plain.specs.Prints.{restOf, refilled, ending, Prints, again, more, last, bad}
+use Rattle.timed_as_plain.specs.Scores.{over, stop, ends, scored, sounded, closing, leftText, timedText}
+use Rattle.timed_as_plain.specs.Prints.{restOf, refilled, Prints, again, more, last, bad}
 use Rattle.timed_as_plain.proofs.Lines.{clock-playable}
 use Rattle.timed_as_plain.proofs.Scored.{score-open, open-all}
 use Rattle.timed_as_plain.proofs.Plays.{Where, all, some, Stopped, stops}

@@ -1,13 +1,13 @@
 -- A timed log line by line: a line that is written out, and what is left, are what the log prints. Assumes nothing.
-use mathlib.Core.Path.{_≡_, refl, sym, ap, ap₂, _∙_, subst}
+use mathlib.Core.Path.{_≡_, refl, sym, ap, _∙_, subst}
 use mathlib.Core.Bool.{Bool, true, false, cond}
 use mathlib.Core.List.{List, [], _∷_, _++_, append-assoc, append-nil}
-use Prim.Native.Nat.{ℕ, zero, suc, _+_, _-_, _≤_, _<_}
+use Prim.Native.Nat.{ℕ, suc, _+_, _-_, _≤_, _<_}
 use native.Mathlib.Omega.{arith}
-use lib.Dec.{eqb, leb, ltb}
+use lib.Dec.{eqb, leb}
 use lib.ListN.{length, getD, drop, take, length-append, length-drop}
 use lib.Seq.{take-length}
-use borrow.Author.Tests.{eq-eqb, ne-eqb, eqb-true, leb-true, leb-false, lt-leb, le-ltb}
+use borrow.Author.Tests.{ne-eqb, leb-true, lt-leb, le-ltb}
 use Rattle.num.proofs.Choice.{cond-by, never}
 use Rattle.decimal.specs.Written.{decimal}
 use Rattle.decimal.specs.Read.{naturalAt}
@@ -15,19 +15,17 @@ use Rattle.decimal.specs.declared.TakenNatural.{TakenNatural}
 use Rattle.decimal.specs.declared.TakenNatural.the-variants.{Natural, NoNatural}
 use Rattle.decimal.proofs.Writing.{width-below}
 use Rattle.decimal.proofs.RoundTrip.{natural-only-written}
-use Rattle.log.specs.Lines.{parsedLine, isBad}
 use Rattle.log.proofs.Long.{long-line}
 use Rattle.log_player.specs.Steps.{firstLine}
 use Rattle.log_player.specs.Worlds.{World}
 use Rattle.log_player.proofs.Stops.{first-taken}
-use Rattle.plain_chip.specs.Lists.{Every}
-use Rattle.log_resume.specs.Cuts.{noEnd, Playable, half, played}
+use Rattle.log_resume.specs.Cuts.{noEnd, Playable, played}
 use Rattle.timed_log.specs.declared.TimedLine.{TimedLine}
 use Rattle.timed_log.specs.declared.TimedLine.the-variants.{Due, Malformed}
 use Rattle.timed_log.specs.declared.Clockwork.{Clockwork}
 use Rattle.timed_log.specs.Lines.{frameMost, stampMost, longest, stampedLine, dueBehind, dueOf, badNumber, dueAlready, judged}
 use Rattle.timed_log.specs.Unrolled.{clockMost, clockLine, clockwork, applied}
-use Rattle.timed_log.proofs.Judging.{IsDue, IsTaken}
+use Rattle.timed_log.proofs.Judging.{IsTaken}
 use Rattle.timed_log.proofs.Found.{first-split, Found}
 use Rattle.timed_as_plain.specs.Scores.{DueLine, dueLine, over, stop, Score, ends, dueBefore, lineScored, scored, gapLines, unrolledLines, closing, sounded, leftText}
 use Rattle.timed_as_plain.proofs.Lines.{no-end-drop, first-no-end, gap-more}

@@ -1,11 +1,10 @@
 -- Frames in one `C` line or in two: they print the same, and leave the same. Assumes a chip that lines can reach.
 use mathlib.Core.Path.{_≡_, refl, sym, ap, ap₂, _∙_, subst}
-use mathlib.Core.Bool.{Bool, true, cond}
 use mathlib.Core.List.{List, [], _∷_, _++_, append-assoc}
 use Prim.Native.Nat.{ℕ, zero, suc, _+_, _≤_, _<_, min, max}
 use native.Mathlib.Omega.{arith}
 use lib.IntN.{ℤ, pos, natAbs}
-use lib.ListN.{length, getD, set, replicate, length-set, length-replicate, length-append, List·getD-append}
+use lib.ListN.{length, getD, set, replicate, length-set, length-replicate, List·getD-append}
 use lib.Seq.{set-append-left, set-append-seam, getD-append-seam}
 use Rattle.sizes.specs.Sizes.{numChannels}
 use Rattle.sides.specs.Sides.{sideSum, wrapping}
@@ -15,7 +14,7 @@ use Rattle.frames.specs.Turning.{frame}
 use Rattle.s3w2.specs.declared.Chip.{Chip}
 use Rattle.s3w2.specs.declared.Answer.{Answer}
 use Rattle.s3w2.specs.declared.Answer.the-variants.{Done}
-use Rattle.s3w2.specs.Answers.{unless, isDone, answered, called}
+use Rattle.s3w2.specs.Answers.{unless, answered, called}
 use Rattle.s3w2.specs.Chips.{withCore}
 use Rattle.s3w2.specs.Refusals.{soundRefusal}
 use Rattle.s3w2.specs.Mixing.{Mix, mix, added, mixed, mixedSides, mixedAnswered, mixedLeft, mixedRight, mixedI32Called}

@@ -1,21 +1,19 @@
 -- A turn prints its part of the log, and leaves the rest. Assumes nothing.
 use mathlib.Core.Path.{_≡_, refl, sym, ap, ap₂, _∙_, subst}
-use mathlib.Core.Bool.{Bool, true, false, cond}
 use mathlib.Core.List.{List, [], _∷_, _++_, append-assoc, append-nil}
-use Prim.Native.Nat.{ℕ, zero, suc, _+_, _-_, _≤_, _<_, min}
+use Prim.Native.Nat.{ℕ, suc, _+_, _-_, _≤_, _<_}
 use native.Mathlib.Omega.{arith}
 use lib.Dec.{eqb, leb, ltb}
 use lib.ListN.{length, drop, take, length-append, length-take}
 use lib.Seq.{sets, sets-eq, take-append-seam, drop-append-seam, length-sets}
-use borrow.Author.Tests.{eqb-true, eqb-false, ltb-true, ltb-false, leb-false}
+use borrow.Author.Tests.{eqb-true, eqb-false, ltb-false, leb-false}
 use Rattle.num.specs.Lists.{part}
 use Rattle.num.proofs.Choice.{cond-by, never}
-use Rattle.log.specs.Texts.{badLine}
 use Rattle.log_player.specs.declared.Next.{Next}
 use Rattle.log_player.specs.declared.Next.the-variants.{Line, Rest, Bad, Refused}
 use Rattle.log_player.specs.Worlds.{World}
 use Rattle.log_player.specs.Steps.{firstLine}
-use Rattle.log_player.specs.Runs.{spot, isLine, Run, stopText, stopsAt, runFrom, refusedBy, logRun}
+use Rattle.log_player.specs.Runs.{isLine, Run, refusedBy, logRun}
 use Rattle.log_player.proofs.Stops.{first-short}
 use Rattle.plain_chip.specs.Lists.{Every}
 use Rattle.log_resume.specs.Cuts.{Playable, half, played}
@@ -26,13 +24,13 @@ use Rattle.timed_log.specs.declared.Ahead.{Ahead}
 use Rattle.timed_log.specs.declared.Ahead.the-variants as ahead
 use Rattle.timed_log.specs.Lines.{longest, dueOf, badNumber, judged, placed, nextDue}
 use Rattle.timed_log.specs.Unrolls.{Reach, reach, unrollFrom}
-use Rattle.timed_log.specs.Turns.{Stand, stand, Turn, turn, leftOf, goesOn, playedAs, playedOn, nextAt, toldAs, told, standsAt, writtenAs, writtenOut, turnOver}
+use Rattle.timed_log.specs.Turns.{Stand, stand, Turn, turn, leftOf, goesOn, playedAs, playedOn, nextAt, toldAs, told, standsAt, writtenOut, turnOver}
 use Rattle.timed_log.proofs.Found.{first-split}
 use Rattle.timed_log.proofs.Reaching.{unroll-within}
 use Rattle.timed_as_plain.specs.Scores.{Score, stop, ends, lineScored, scored, unrolledLines, sounded, closing, leftText}
 use Rattle.timed_as_plain.proofs.Lines.{first-no-end}
 use Rattle.timed_as_plain.proofs.Scored.{score-line, score-long, open-all}
-use Rattle.timed_as_plain.proofs.Writes.{half-append, Written, unrolls}
+use Rattle.timed_as_plain.proofs.Writes.{half-append, unrolls}
 use Rattle.timed_as_plain.proofs.Plays.{played-append, sounded-append, Where, all, some, Stopped, stops}
 
 -- ---- the lines that are written out and not played yet

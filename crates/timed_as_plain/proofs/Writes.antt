@@ -1,10 +1,9 @@
 -- What a run writes out, and what is left of the log behind it, print what the log prints. Assumes nothing.
-use mathlib.Core.Path.{_≡_, refl, sym, ap, ap₂, _∙_, subst}
-use mathlib.Core.Bool.{Bool, true, false, cond}
+use mathlib.Core.Path.{_≡_, refl, sym, ap, ap₂, _∙_}
+use mathlib.Core.Bool.{Bool, true, false}
 use mathlib.Core.List.{List, [], _∷_, _++_, append-assoc, append-nil}
-use Prim.Native.Nat.{ℕ, zero, suc, _+_, _-_, _≤_, _<_}
+use Prim.Native.Nat.{ℕ, zero, suc, _+_, _-_, _≤_}
 use native.Mathlib.Omega.{arith}
-use native.Mathlib.Decide.{decLe}
 use lib.Dec.{eqb, ltb}
 use lib.ListN.{length, drop}
 use lib.Seq.{drop-drop}
@@ -15,16 +14,15 @@ use Rattle.log_player.specs.Steps.{firstLine}
 use Rattle.log_player.specs.Worlds.{World}
 use Rattle.plain_chip.specs.Lists.{Every}
 use Rattle.log_resume.specs.Cuts.{Playable, half}
-use Rattle.timed_log.specs.declared.Clockwork.{Clockwork}
 use Rattle.timed_log.specs.declared.Ahead.{Ahead}
 use Rattle.timed_log.specs.declared.Ahead.the-variants.{Line, Rest, Bad}
-use Rattle.timed_log.specs.Unrolled.{clockMost, clockLine, clockText, clockwork, applied}
+use Rattle.timed_log.specs.Unrolled.{clockMost, clockLine, applied}
 use Rattle.timed_log.specs.Unrolls.{hasPlace, Reach, reach, gapText, reachBehind, aheadOf, onLine, unrollOn, unrollFrom}
 use Rattle.timed_log.proofs.Puts as puts
 use Rattle.timed_log.proofs.Found.{Found, found-is, part-due}
 use Rattle.timed_as_plain.specs.Scores.{scored, gapLines, leftText}
 use Rattle.timed_as_plain.proofs.Lines.{clock-playable, every-append, gap-playable, gap-none, gap-small}
-use Rattle.timed_as_plain.proofs.Scored.{lineDue, due-playable, left-line, left-clock}
+use Rattle.timed_as_plain.proofs.Scored.{due-playable, left-line, left-clock}
 
 pub half-append : (a b : List (List ℕ)) → half (a ++ b) ≡ half a ++ half b
 half-append [] b = refl

@@ -1,6 +1,6 @@
 -- A line that was found in an input, and what of it is written out. Assumes nothing.
 use mathlib.Core.Path.{_≡_, refl, sym, ap, _∙_, subst}
-use mathlib.Core.Bool.{Bool, true, false, cond}
+use mathlib.Core.Bool.{Bool, true, false}
 use mathlib.Core.List.{List, [], _∷_, _++_}
 use Prim.Native.Nat.{ℕ, suc, _+_, _-_, _≤_, _<_}
 use native.Mathlib.Omega.{arith}
@@ -11,8 +11,7 @@ use lib.Seq.{drop-drop, drop-append-le, take-append-add}
 use borrow.Author.Tests.{eqb-true, eqb-false}
 use Rattle.num.specs.Lists.{part}
 use Rattle.num.proofs.Choice.{cond-by, never}
-use Rattle.log.specs.declared.Line.the-variants as plain
-use Rattle.log.specs.Lines.{parsedLine, isBad}
+use Rattle.log.specs.Lines.{isBad}
 use Rattle.log.proofs.Long.{long-line}
 use Rattle.log_player.specs.Steps.{firstLine}
 use Rattle.log_player.proofs.Stops.{first-short}
@@ -21,7 +20,7 @@ use Rattle.timed_log.specs.declared.TimedLine.the-variants.{Due, Malform
 use Rattle.timed_log.specs.declared.Clockwork.{Clockwork}
 use Rattle.timed_log.specs.declared.Ahead.{Ahead}
 use Rattle.timed_log.specs.declared.Ahead.the-variants.{Line, Rest, Bad}
-use Rattle.timed_log.specs.Lines.{frameMost, stampMost, longest, dueOf, badNumber, dueAlready, judged, placed, nextDue}
+use Rattle.timed_log.specs.Lines.{longest, dueOf, judged, placed, nextDue}
 use Rattle.timed_log.proofs.Judging.{IsDue, due-is, IsTaken, taken-is}
 
 -- a line with its byte 10 stands before what follows it

@@ -1,6 +1,6 @@
 -- A line of a timed log, and what stands in an input. Assumes nothing.
 use mathlib.Core.Path.{_≡_, refl, sym, ap, _∙_, subst}
-use mathlib.Core.Bool.{Bool, true, false, cond}
+use mathlib.Core.Bool.{false}
 use mathlib.Core.List.{List, [], _∷_}
 use Prim.Native.Nat.{ℕ, _+_, _-_, _≤_, _<_}
 use native.Mathlib.Omega.{arith}
@@ -18,7 +18,6 @@ use Rattle.log.specs.declared.Line.the-variants as plain
 use Rattle.log.specs.Lines.{parsedLine, isBad}
 use Rattle.log.proofs.Commas.{comma-inside}
 use Rattle.log_player.specs.Steps.{firstLine}
-use Rattle.log_player.proofs.Stops.{first-short}
 use Rattle.timed_log.proofs.TimedLine.{the-type}
 use Rattle.timed_log.specs.declared.TimedLine.{TimedLine}
 use Rattle.timed_log.specs.declared.TimedLine.the-variants.{Due, Malformed, Unmapped, Late, Crowded}

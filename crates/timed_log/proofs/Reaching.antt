@@ -2,7 +2,7 @@
 use mathlib.Core.Path.{_≡_, refl, sym, ap, _∙_, subst}
 use mathlib.Core.Bool.{Bool, true, false, cond}
 use mathlib.Core.List.{List, [], _∷_, _++_}
-use Prim.Native.Nat.{ℕ, zero, suc, _+_, _-_, _≤_, _<_, _^_, min}
+use Prim.Native.Nat.{ℕ, zero, suc, _+_, _-_, _≤_, _<_, _^_}
 use native.Mathlib.Numerals.{add-one}
 use native.Mathlib.Omega.{arith}
 use lib.Dec.{eqb, leb, ltb}
@@ -12,7 +12,7 @@ use borrow.Author.Tests.{lt-ltb, le-ltb, ltb-false, lt-leb}
 use types.Run.{OneOf, miss}
 use denote.Enum.Declared.{tagOf}
 use Rattle.num.specs.Lists.{part}
-use Rattle.num.proofs.Choice.{cond-by, never}
+use Rattle.num.proofs.Choice.{cond-by}
 use Rattle.decimal.specs.Written.{Put, decimal}
 use Rattle.decimal.proofs.Writing.{width-below, put-append, put-none}
 use Rattle.timed_log.proofs.Ahead.{the-type}
@@ -20,11 +20,10 @@ use Rattle.timed_log.specs.declared.Clockwork.{Clockwork}
 use Rattle.timed_log.specs.declared.Unrolled.{Unrolled}
 use Rattle.timed_log.specs.declared.Ahead.{Ahead}
 use Rattle.timed_log.specs.declared.Ahead.the-variants.{Line, Rest, Bad}
-use Rattle.timed_log.specs.Lines.{stampMost, nextDue}
+use Rattle.timed_log.specs.Lines.{nextDue}
 use Rattle.timed_log.specs.Unrolled.{clockMost, clockLine, clockText, clockwork, applied}
 use Rattle.timed_log.specs.Unrolls.{lineRoom, hasPlace, Reach, reach, gapText, reachBehind, aheadOf, onLine, unrollOn, unrollFrom, unrolledAs, unrolledTo}
-use Rattle.timed_log.proofs.Found.{Found, found-is, dueText, due-short, part-length}
-use Rattle.timed_log.proofs.Puts.{gap-none, gap-some}
+use Rattle.timed_log.proofs.Found.{Found, found-is, due-short, part-length}
 use Rattle.timed_log.proofs.Places.{place-is, place-there}
 
 -- ---- how long it gets

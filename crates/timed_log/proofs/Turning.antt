@@ -1,8 +1,8 @@
 -- A turn of a timed log, and its end. Assumes nothing.
 use mathlib.Core.Path.{_≡_, refl, sym, ap, _∙_, subst}
 use mathlib.Core.Bool.{Bool, true, false, cond}
-use mathlib.Core.List.{List, [], _∷_, _++_}
-use Prim.Native.Nat.{ℕ, zero, suc, _+_, _-_, _≤_, _<_, min}
+use mathlib.Core.List.{List, [], _∷_}
+use Prim.Native.Nat.{ℕ, zero, _+_, _-_, _≤_, _<_, min}
 use native.Mathlib.Omega.{arith}
 use lib.Dec.{eqb, ltb}
 use lib.IntN.{ℤ}
@@ -14,7 +14,6 @@ use Rattle.decimal.specs.Written.{Put}
 use Rattle.decimal.proofs.Writing.{put-append, put-none}
 use Rattle.log_player.specs.declared.Next.{Next}
 use Rattle.log_player.specs.declared.Next.the-variants.{Line, Rest, Bad, Refused}
-use Rattle.log_player.specs.declared.Player.{Player}
 use Rattle.log_player.specs.declared.Made.{Made}
 use Rattle.log_player.specs.declared.Ran.{Ran}
 use Rattle.log_player.specs.Worlds.{World, world, madePlayer}
@@ -27,7 +26,7 @@ use Rattle.timed_log.specs.declared.TimedRan.{TimedRan}
 use Rattle.timed_log.specs.Lines.{nextDue}
 use Rattle.timed_log.specs.Unrolled.{noFrames}
 use Rattle.timed_log.specs.Unrolls.{Reach, reach, unrollFrom, unrolledTo}
-use Rattle.timed_log.specs.Turns.{Stand, stand, Turn, turn, leftOf, goesOn, playedAs, playedOn, nextAt, toldAs, told, standsAt, writtenAs, writtenOut, turnOver, standing, timedTo, madeTimed}
+use Rattle.timed_log.specs.Turns.{Stand, stand, Turn, turn, leftOf, goesOn, playedAs, playedOn, nextAt, toldAs, told, standsAt, writtenOut, turnOver, standing, timedTo, madeTimed}
 use Rattle.timed_log.specs.Ends.{lastText, soundsLast, runNone, lastRun, toldLast, lastTold}
 
 -- ---- what was written out is played

@@ -1,6 +1,6 @@
 // A line of a timed log, without its closing byte 10.
 ghost use mathlib.Core.Path.{_≡_};
-ghost use lib.ListN.{getD, length, drop};
+ghost use lib.ListN.{getD, drop};
 ghost use Rattle.timed_log.specs.Lines.{stampedLine, dueOf, numberOf, judged, nextDue};
 use crate::Ahead;
 use crate::Clockwork;
