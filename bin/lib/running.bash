@@ -119,15 +119,16 @@ open_words() {
     local file
     exec 9>&2
     [ "$crate" = s3w2_load ] && file=$(mktemp 2>/dev/null) || return 0
+    kept_words=yes
     exec 9> "$file" 10< "$file"
     rm -f -- "$file"
 }
 
 # The line of the state that was refused; any other words go to standard error.
-state_line=''
+state_line='' kept_words=no
 take_words() {
     local line
-    { true <&10; } 2>/dev/null || return 0
+    [ "$kept_words" = yes ] || return 0
     while IFS= read -r line <&10; do
         case $line in
         's3w2-load: line '*' of the state') state_line=${line#s3w2-load: line }; state_line=${state_line%% *} ;;
