@@ -1,112 +1,81 @@
-// A line's fields, read and written. A negative number is read in two's complement of 64 bits.
+// A line's fields, read and written. Its letter is field 0. A negative number is read in two's complement of 64 bits.
 use decimal::TakenNatural;
 use version::SguVersion;
 
-// The field at a place, and the place behind it; 0 and the place itself where there is none.
-struct Taken {
-    found: bool,
-    value: u64,
-    next: usize,
-}
-
-fn found_at(size: TakenNatural, negative: bool, at: usize) -> Taken {
+// The field behind the comma at a place.
+fn take(text: &[u8], at: usize) -> TakenNatural {
+    if num::byte_at(text, at) != b',' {
+        return TakenNatural::NoNatural;
+    }
+    let first = std::num::wrapping_add_usize(at, 1);
+    if num::byte_at(text, first) != b'-' {
+        return decimal::take_natural(text, first);
+    }
+    let size = decimal::take_natural(text, std::num::wrapping_add_usize(at, 2));
     let TakenNatural::Natural { value, next } = size else {
-        return nothing(at);
+        return TakenNatural::NoNatural;
     };
-    Taken {
-        found: true,
-        value: if negative {
-            std::num::wrapping_sub_u64(0, value)
-        } else {
-            value
-        },
+    TakenNatural::Natural {
+        value: std::num::wrapping_sub_u64(0, value),
         next,
     }
 }
 
-fn nothing(at: usize) -> Taken {
-    Taken {
-        found: false,
-        value: 0,
-        next: at,
-    }
-}
-
-fn take(line: &[u8], at: usize) -> Taken {
-    if num::byte_at(line, at) != 44 {
-        return nothing(at);
-    }
-    let first = std::num::wrapping_add_usize(at, 1);
-    if num::byte_at(line, first) == 45 {
-        let second = std::num::wrapping_add_usize(at, 2);
-        return found_at(decimal::take_natural(line, second), true, at);
-    }
-    found_at(decimal::take_natural(line, first), false, at)
-}
-
-fn count_after(found: bool, k: usize, count: usize) -> usize {
-    if found {
-        return std::num::wrapping_add_usize(k, 1);
-    }
-    count
-}
-
-// The fields behind a line's letter, and how many there are; those that are not there are 0.
-pub(crate) fn parse(line: &[u8], f: &mut [u64]) -> usize {
+// Puts the fields behind the line's letter, as far as there is room, and answers how many fields there are with it.
+pub(crate) fn parse(text: &[u8], f: &mut [u64]) -> usize {
     let mut at = 1;
-    let mut count = 0;
-    for k in 0..f.len() {
-        let t = take(line, at);
-        f[k] = t.value;
-        at = t.next;
-        count = count_after(t.found, k, count);
+    let mut k = 1;
+    while k < f.len() {
+        let taken = take(text, at);
+        let TakenNatural::Natural { value, next } = taken else {
+            return k;
+        };
+        f[k] = value;
+        at = next;
+        k += 1;
     }
-    count
+    k
 }
 
-// ---- a field by its type
-
-pub(crate) fn long(f: &[u64], k: usize) -> u64 {
-    if k < f.len() { f[k] } else { 0 }
+pub(crate) fn first(f: &[u64], count: usize) -> &[u64] {
+    let n = num::least(count, f.len());
+    &f[..n]
 }
 
-pub(crate) fn size(f: &[u64], k: usize) -> usize {
-    long(f, k) as usize
+// ---- a field by its type; one that is not there is 0
+
+pub(crate) fn long(line: &[u64], k: usize) -> u64 {
+    if k < line.len() { line[k] } else { 0 }
 }
 
-pub(crate) fn word(f: &[u64], k: usize) -> u32 {
-    (long(f, k) % 4294967296) as u32
+pub(crate) fn size(line: &[u64], k: usize) -> usize {
+    long(line, k) as usize
 }
 
-pub(crate) fn short(f: &[u64], k: usize) -> u16 {
-    (long(f, k) % 65536) as u16
+pub(crate) fn word(line: &[u64], k: usize) -> u32 {
+    (long(line, k) % 4294967296) as u32
 }
 
-pub(crate) fn byte(f: &[u64], k: usize) -> u8 {
-    (long(f, k) % 256) as u8
+pub(crate) fn short(line: &[u64], k: usize) -> u16 {
+    (long(line, k) % 65536) as u16
 }
 
-pub(crate) fn flag(f: &[u64], k: usize) -> bool {
-    long(f, k) != 0
+pub(crate) fn byte(line: &[u64], k: usize) -> u8 {
+    (long(line, k) % 256) as u8
 }
 
-pub(crate) fn sample(f: &[u64], k: usize) -> i16 {
-    num::signed16(short(f, k))
+pub(crate) fn letter(line: &[u64]) -> u8 {
+    byte(line, 0)
+}
+
+pub(crate) fn version(line: &[u64]) -> SguVersion {
+    SguVersion::numbered(long(line, 1))
 }
 
 // Two halves of 16 bits.
 pub(crate) fn wide(high: u16, low: u16) -> i32 {
     let half = (num::signed16(high) as i32) * 32768;
     tone::wrapping_add(tone::wrapping_add(half, half), low as i32)
-}
-
-pub(crate) fn signed_word(f: &[u64], k: usize) -> i32 {
-    let bits = word(f, k);
-    wide((bits / 65536) as u16, (bits % 65536) as u16)
-}
-
-pub(crate) fn version(f: &[u64], k: usize) -> SguVersion {
-    SguVersion::numbered(long(f, k))
 }
 
 // ---- an answer's fields, each after a comma; of samples those from a place to before another
@@ -133,7 +102,7 @@ fn long_wide(x: i32) -> i64 {
     x as i64
 }
 
-pub(crate) fn flag_number(x: bool) -> u8 {
+pub(crate) fn flag_number(x: bool) -> u64 {
     if x { 1 } else { 0 }
 }
 
@@ -159,9 +128,9 @@ pub(crate) fn put_samples(
     end
 }
 
-pub(crate) fn put_wide_samples(out: &mut [u8], at: usize, samples: &[i32], to: usize) -> usize {
+pub(crate) fn put_wide_samples(out: &mut [u8], at: usize, samples: &[i32]) -> usize {
     let mut end = at;
-    for i in 0..num::least(to, samples.len()) {
+    for i in 0..samples.len() {
         end = put_number(&mut *out, end, long_wide(samples[i]));
     }
     end

@@ -1,4 +1,5 @@
 // Plays a script of calls: reads lines from standard input, prints each call's answer. oracle/README.md lists the lines.
+mod answers;
 mod calls;
 mod fields;
 mod setting;
@@ -10,8 +11,8 @@ use s3w2::Chip;
 use sizes::QUEUE_BUFFER;
 use version::SguVersion;
 
-// The most fields that a line has.
-const FIELDS: usize = 512;
+// The most fields that a line has, its letter the first of them.
+const FIELDS: usize = 513;
 
 // The most bytes of RAM that a line can have lent. oracle/compare_chip builds the program with more.
 const RAM_ROOM: usize = 1048576;
@@ -27,14 +28,10 @@ struct Player {
     end: usize,
 }
 
-// A chip over the first bytes of a RAM.
-fn made(ram: &mut [u8], version: SguVersion, length: usize) -> s3w2::Called {
-    let end = num::least(length, ram.len());
-    Chip::with_version(&mut ram[..end], version)
-}
-
+// A chip over the first bytes of the RAM.
 fn first(ram: &mut [u8]) -> Player {
-    let called = made(ram, SguVersion::V3_1, 256);
+    let length = num::least(256, ram.len());
+    let called = Chip::with_version(&mut ram[..length], SguVersion::V3_1);
     let chip = called.chip;
     Player {
         chip,
@@ -45,14 +42,20 @@ fn first(ram: &mut [u8]) -> Player {
 }
 
 impl Player {
+    // Writes the answers where another may not fit behind them, and begins one with its line's letter.
+    fn begun(mut self, letter: u8, out: &mut [u8]) -> Player {
+        let at = program::flush(&*out, self.end, ANSWER_ROOM);
+        self.end = decimal::put_byte(out, at, letter);
+        self
+    }
+
     // Plays one line, without its closing byte 10.
     fn line(self, text: &[u8], ram: &mut [u8], queues: &mut [i16], out: &mut [u8]) -> Player {
-        let mut f = [0u64; FIELDS];
-        let code = num::byte_at(text, 0);
+        let letter = num::byte_at(text, 0);
+        let mut f = [letter as u64; FIELDS];
         let count = fields::parse(text, &mut f);
-        let start = program::flush(&*out, self.end, ANSWER_ROOM);
-        let at = decimal::put_byte(&mut *out, start, code);
-        let player = self.play(code, count, &f, ram, queues, &mut *out, at);
+        let begun = self.begun(letter, &mut *out);
+        let player = begun.answer(fields::first(&f, count), ram, queues, &mut *out);
         player.ended(decimal::put_byte(out, player.end, 10))
     }
 }

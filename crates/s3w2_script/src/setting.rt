@@ -7,6 +7,8 @@ use registers::ModulationType;
 use registers::PcmRegisters;
 use registers::Registers;
 use registers::WaveformType;
+use s3w2::Answer;
+use s3w2::Called;
 use s3w2::Chip;
 use sizes::FIFO_CAPACITY;
 use sizes::QUEUE_BUFFER;
@@ -17,51 +19,50 @@ use stream::Info;
 use stream::StreamCache;
 use ticks::Oscillator;
 use voice::Channel;
-use voices::Core;
 
-fn registers_of(f: &[u64]) -> Registers {
+fn registers_of(line: &[u64]) -> Registers {
     Registers {
-        frequency: fields::short(f, 1),
-        waveform_type: WaveformType::from(fields::byte(f, 2)),
-        volume: fields::byte(f, 3),
-        panpot: fields::byte(f, 4),
-        modulation_type: ModulationType::from(fields::byte(f, 5)),
-        modulation_target: fields::byte(f, 6),
-        modulation_targeting_mode: fields::byte(f, 7),
-        modulation_param_1: fields::short(f, 8),
-        modulation_param_2: fields::short(f, 9),
+        frequency: fields::short(line, 2),
+        waveform_type: WaveformType::from(fields::byte(line, 3)),
+        volume: fields::byte(line, 4),
+        panpot: fields::byte(line, 5),
+        modulation_type: ModulationType::from(fields::byte(line, 6)),
+        modulation_target: fields::byte(line, 7),
+        modulation_targeting_mode: fields::byte(line, 8),
+        modulation_param_1: fields::short(line, 9),
+        modulation_param_2: fields::short(line, 10),
     }
 }
 
-fn pcm_of(f: &[u64]) -> PcmRegisters {
+fn pcm_of(line: &[u64]) -> PcmRegisters {
     PcmRegisters {
-        start_addr: fields::word(f, 10),
-        end_addr: fields::word(f, 11),
-        loop_addr: fields::word(f, 12),
-        control: fields::byte(f, 13),
-        sample_control: fields::byte(f, 14),
-        active: fields::flag(f, 15),
+        start_addr: fields::word(line, 11),
+        end_addr: fields::word(line, 12),
+        loop_addr: fields::word(line, 13),
+        control: fields::byte(line, 14),
+        sample_control: fields::byte(line, 15),
+        active: fields::long(line, 16) != 0,
     }
 }
 
-fn oscillator_of(f: &[u64]) -> Oscillator {
+fn oscillator_of(line: &[u64]) -> Oscillator {
     Oscillator {
-        phase: fields::long(f, 16),
-        old_phase: fields::long(f, 17),
-        lfsr_state: fields::word(f, 18),
-        last_sample: fields::sample(f, 19),
-        slew_current: fields::short(f, 20),
+        phase: fields::long(line, 17),
+        old_phase: fields::long(line, 18),
+        lfsr_state: fields::word(line, 19),
+        last_sample: num::signed16(fields::short(line, 20)),
+        slew_current: fields::short(line, 21),
     }
 }
 
-fn fifo_of(f: &[u64]) -> Fifo {
+fn fifo_of(line: &[u64]) -> Fifo {
     Fifo {
-        head: fields::size(f, 25),
-        count: fields::size(f, 26),
-        held: fields::sample(f, 21),
-        hold: fields::word(f, 22),
-        sub: fields::byte(f, 23),
-        latch: fields::byte(f, 24),
+        head: fields::size(line, 26),
+        count: fields::size(line, 27),
+        held: num::signed16(fields::short(line, 22)),
+        hold: fields::word(line, 23),
+        sub: fields::byte(line, 24),
+        latch: fields::byte(line, 25),
     }
 }
 
@@ -111,35 +112,27 @@ fn fill_wavetable(wavetables: &mut [u8; WAVETABLES_SIZE], ch: usize, seed: u64) 
     }
 }
 
-// The voice's decoded samples from a seed; from 0 they are 0.
-fn fill_fragments(fragments: &mut [i16; 1024], ch: usize, seed: u64) {
-    let at = ch % 8 * 128;
-    fields::fill(fragments, at, at + 128, seed, seed != 0);
-}
-
-fn with_core(chip: Chip, core: Core) -> Chip {
-    let version = chip.version;
-    Chip { version, core }
-}
-
 // The voice has its cache as it was.
-pub(crate) fn with_voice(chip: Chip, f: &[u64], queues: &mut [i16]) -> Chip {
-    let ch = fields::size(f, 0) % 8;
-    let fifo = fifo_of(f);
-    fill_queue(queues, ch, fifo, fields::long(f, 27));
+pub(crate) fn with_voice(mut chip: Chip, line: &[u64], queues: &mut [i16]) -> Called {
+    let ch = fields::size(line, 1) % 8;
+    let fifo = fifo_of(line);
+    fill_queue(queues, ch, fifo, fields::long(line, 28));
     let mut core = chip.core;
     let old = core.channels[ch];
     let stream = old.stream;
-    let c = Channel {
-        oscillator: oscillator_of(f),
+    core.channels[ch] = Channel {
+        oscillator: oscillator_of(line),
         fifo,
         stream,
-        pcm: pcm_of(f),
-        registers: registers_of(f),
+        pcm: pcm_of(line),
+        registers: registers_of(line),
     };
-    core.channels[ch] = c;
-    fill_wavetable(&mut core.wavetables, ch, fields::long(f, 28));
-    with_core(chip, core)
+    fill_wavetable(&mut core.wavetables, ch, fields::long(line, 29));
+    chip.core = core;
+    Called {
+        chip,
+        answer: Answer::Done,
+    }
 }
 
 fn held_of(n: u64) -> Held {
@@ -158,42 +151,44 @@ fn cached_of(n: u64) -> Cached {
     Cached::Frame((n - 1) as usize)
 }
 
-fn info_of(f: &[u64]) -> Info {
-    Info {
-        version: fields::byte(f, 2),
-        sample_count: fields::size(f, 4),
-        frame_samples: fields::size(f, 5),
-        frame_size: fields::size(f, 6),
-        loop_sample: fields::size(f, 7),
-    }
-}
-
-fn state_of(f: &[u64]) -> State {
-    State {
-        predictor: fields::sample(f, 11),
-        index: fields::size(f, 12),
-    }
-}
-
-fn cache_of(f: &[u64]) -> StreamCache {
+fn cache_of(line: &[u64]) -> StreamCache {
     StreamCache {
-        valid: fields::flag(f, 1),
-        variant: held_of(fields::long(f, 3)),
-        info: info_of(f),
-        even: cached_of(fields::long(f, 8)),
-        odd: cached_of(fields::long(f, 9)),
-        next_frame: fields::size(f, 10),
-        decoder: state_of(f),
+        valid: fields::long(line, 2) != 0,
+        variant: held_of(fields::long(line, 4)),
+        info: Info {
+            version: fields::byte(line, 3),
+            sample_count: fields::size(line, 5),
+            frame_samples: fields::size(line, 6),
+            frame_size: fields::size(line, 7),
+            loop_sample: fields::size(line, 8),
+        },
+        even: cached_of(fields::long(line, 9)),
+        odd: cached_of(fields::long(line, 10)),
+        next_frame: fields::size(line, 11),
+        decoder: State {
+            predictor: num::signed16(fields::short(line, 12)),
+            index: fields::size(line, 13),
+        },
     }
 }
 
-pub(crate) fn with_cache(chip: Chip, f: &[u64]) -> Chip {
-    let ch = fields::size(f, 0) % 8;
+// The voice's decoded samples from a seed; from 0 they are 0.
+fn fill_fragments(fragments: &mut [i16; 1024], ch: usize, seed: u64) {
+    let at = ch % 8 * 128;
+    fields::fill(fragments, at, at + 128, seed, seed != 0);
+}
+
+pub(crate) fn with_cache(mut chip: Chip, line: &[u64]) -> Called {
+    let ch = fields::size(line, 1) % 8;
     let mut core = chip.core;
     let mut c = core.channels[ch];
-    let s = cache_of(f);
+    let s = cache_of(line);
     c.stream = s;
     core.channels[ch] = c;
-    fill_fragments(&mut core.fragments, ch, fields::long(f, 13));
-    with_core(chip, core)
+    fill_fragments(&mut core.fragments, ch, fields::long(line, 14));
+    chip.core = core;
+    Called {
+        chip,
+        answer: Answer::Done,
+    }
 }

@@ -43,7 +43,7 @@ fn pcm_number(p: PcmRegisters, k: usize) -> u64 {
         11 => p.loop_addr as u64,
         12 => p.control as u64,
         13 => p.sample_control as u64,
-        _ => fields::flag_number(p.active) as u64,
+        _ => fields::flag_number(p.active),
     }
 }
 
@@ -100,7 +100,7 @@ fn cache_number(s: StreamCache, k: usize) -> Number {
     let odd = s.odd;
     let decoder = s.decoder;
     match k {
-        24 => Number::Natural(fields::flag_number(s.valid) as u64),
+        24 => Number::Natural(fields::flag_number(s.valid)),
         26 => Number::Natural(held_number(held)),
         31 => Number::Natural(cached_number(even)),
         32 => Number::Natural(cached_number(odd)),
@@ -156,9 +156,16 @@ fn put_channel(out: &mut [u8], at: usize, c: Channel) -> usize {
     end
 }
 
-pub(crate) fn put_voice(out: &mut [u8], at: usize, chip: Chip, queues: &[i16], ch: usize) -> usize {
+// A line's voice.
+pub(crate) fn put_voice(
+    chip: Chip,
+    line: &[u64],
+    queues: &[i16],
+    out: &mut [u8],
+    at: usize,
+) -> usize {
     let core = chip.core;
-    let k = ch % 8;
+    let k = fields::size(line, 1) % 8;
     let c = core.channels[k];
     let table = num::part(&core.wavetables, 256 * k, 256 * k + 256);
     let first = put_channel(&mut *out, at, c);

@@ -16,29 +16,20 @@ size-requires-2 c κs = search needs
 least-requires-2 : tie.Need-least-requires-2
 least-requires-2 c κs = search needs
 
-long-requires : tie.Need-long-requires
-long-requires c κs = search needs
-
 array-borrow-prefix-left : tie.Need-array-borrow-prefix-left
 array-borrow-prefix-left c = search needs
 
-slice-aggregate-mixed : tie.Need-slice-aggregate-mixed
-slice-aggregate-mixed c = sym (length-take-le _ _ (search needs))
+slice-aggregate-mix : tie.Need-slice-aggregate-mix
+slice-aggregate-mix c = sym (length-take-le _ _ (search needs))
 
 array-borrow-prefix-right : tie.Need-array-borrow-prefix-right
 array-borrow-prefix-right c = search needs
 
-slice-aggregate-mixed-2 : tie.Need-slice-aggregate-mixed-2
-slice-aggregate-mixed-2 c = sym (length-take-le _ _ (search needs))
+slice-aggregate-mix-2 : tie.Need-slice-aggregate-mix-2
+slice-aggregate-mix-2 c = sym (length-take-le _ _ (search needs))
 
-mixed-requires : tie.Need-mixed-requires
-mixed-requires c κs = search needs
-
-put-sides-requires : tie.Need-put-sides-requires
-put-sides-requires c κs = search needs
-
-with-requires : tie.Need-with-requires
-with-requires c κs = search needs
+mix-requires : tie.Need-mix-requires
+mix-requires c κs = search needs
 
 same-length : tie.Need-same-length
 same-length c = search needs
@@ -57,14 +48,11 @@ sides-spec =
     least-requires
     size-requires-2
     least-requires-2
-    long-requires
     array-borrow-prefix-left
-    slice-aggregate-mixed
+    slice-aggregate-mix
     array-borrow-prefix-right
-    slice-aggregate-mixed-2
-    mixed-requires
-    put-sides-requires
-    with-requires
+    slice-aggregate-mix-2
+    mix-requires
     same-length
     same-length-2
     returns)

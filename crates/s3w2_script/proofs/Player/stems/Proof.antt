@@ -16,17 +16,11 @@ size-requires-2 c κs = search needs
 array-borrow-prefix-stems : tie.Need-array-borrow-prefix-stems
 array-borrow-prefix-stems c = search needs
 
-slice-aggregate-clocked : tie.Need-slice-aggregate-clocked
-slice-aggregate-clocked c = sym (length-take-le _ _ (search needs))
+slice-aggregate-clock : tie.Need-slice-aggregate-clock
+slice-aggregate-clock c = sym (length-take-le _ _ (search needs))
 
-clocked-requires : tie.Need-clocked-requires
-clocked-requires c κs = search needs
-
-put-stems-requires : tie.Need-put-stems-requires
-put-stems-requires c κs = search needs
-
-with-requires : tie.Need-with-requires
-with-requires c κs = search needs
+clock-requires : tie.Need-clock-requires
+clock-requires c κs = search needs
 
 same-length : tie.Need-same-length
 same-length c = search needs
@@ -45,10 +39,8 @@ stems-spec =
     least-requires
     size-requires-2
     array-borrow-prefix-stems
-    slice-aggregate-clocked
-    clocked-requires
-    put-stems-requires
-    with-requires
+    slice-aggregate-clock
+    clock-requires
     same-length
     same-length-2
     returns)

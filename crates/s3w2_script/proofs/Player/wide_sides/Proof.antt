@@ -16,29 +16,20 @@ size-requires-2 c κs = search needs
 least-requires-2 : tie.Need-least-requires-2
 least-requires-2 c κs = search needs
 
-long-requires : tie.Need-long-requires
-long-requires c κs = search needs
-
 array-borrow-prefix-left : tie.Need-array-borrow-prefix-left
 array-borrow-prefix-left c = search needs
 
-slice-aggregate-mixed-wide : tie.Need-slice-aggregate-mixed-wide
-slice-aggregate-mixed-wide c = sym (length-take-le _ _ (search needs))
+slice-aggregate-mix-wide : tie.Need-slice-aggregate-mix-wide
+slice-aggregate-mix-wide c = sym (length-take-le _ _ (search needs))
 
 array-borrow-prefix-right : tie.Need-array-borrow-prefix-right
 array-borrow-prefix-right c = search needs
 
-slice-aggregate-mixed-wide-2 : tie.Need-slice-aggregate-mixed-wide-2
-slice-aggregate-mixed-wide-2 c = sym (length-take-le _ _ (search needs))
+slice-aggregate-mix-wide-2 : tie.Need-slice-aggregate-mix-wide-2
+slice-aggregate-mix-wide-2 c = sym (length-take-le _ _ (search needs))
 
-mixed-wide-requires : tie.Need-mixed-wide-requires
-mixed-wide-requires c κs = search needs
-
-put-wide-sides-requires : tie.Need-put-wide-sides-requires
-put-wide-sides-requires c κs = search needs
-
-with-requires : tie.Need-with-requires
-with-requires c κs = search needs
+mix-wide-requires : tie.Need-mix-wide-requires
+mix-wide-requires c κs = search needs
 
 same-length : tie.Need-same-length
 same-length c = search needs
@@ -57,14 +48,11 @@ wide-sides-spec =
     least-requires
     size-requires-2
     least-requires-2
-    long-requires
     array-borrow-prefix-left
-    slice-aggregate-mixed-wide
+    slice-aggregate-mix-wide
     array-borrow-prefix-right
-    slice-aggregate-mixed-wide-2
-    mixed-wide-requires
-    put-wide-sides-requires
-    with-requires
+    slice-aggregate-mix-wide-2
+    mix-wide-requires
     same-length
     same-length-2
     returns)

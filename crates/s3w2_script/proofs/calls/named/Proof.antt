@@ -1,23 +1,21 @@
-use mathlib.Core.Path.{_≡_, sym}
-use Prim.Native.Nat.{_≤_, _-_}
+use mathlib.Core.Path.{_≡_}
+use Prim.Native.Nat.{_-_}
 use lib.ListN.{length}
-use lib.Seq.{length-take-le}
-use native.Mathlib.Omega.{arith}
 use borrow.Author.Needs.{needs}
 use Rattle.s3w2_script.proofs.calls.named.Statement.{statement}
 use Rattle.s3w2_script.proofs.calls.named.Tie as tie
 
 abbrev Inv-loop : tie.InvT-loop
-Inv-loop f count name₀ n i₀ name i = (n ≤ 64) × (length name ≡ 64)
+Inv-loop line name₀ i₀ name i = length name ≡ 64
 
 abbrev μ-loop : tie.MeasureT-loop
-μ-loop f count name₀ n i₀ name i = n - i
-
-least-requires : tie.Need-least-requires Inv-loop μ-loop
-least-requires c κs = search needs
+μ-loop line name₀ i₀ name i = 64 - i
 
 loop-holds : tie.Need-loop-holds Inv-loop μ-loop
 loop-holds c = search needs
+
+add-byte : tie.Need-add-byte Inv-loop μ-loop
+add-byte c = search needs
 
 byte-requires : tie.Need-byte-requires Inv-loop μ-loop
 byte-requires c κs = search needs
@@ -34,11 +32,14 @@ loop-less c = search needs
 loop-again : tie.Need-loop-again Inv-loop μ-loop
 loop-again c = search needs
 
-array-share-prefix-name : tie.Need-array-share-prefix-name Inv-loop μ-loop
-array-share-prefix-name c = search needs
+wrapping-sub-usize-requires : tie.Need-wrapping-sub-usize-requires Inv-loop μ-loop
+wrapping-sub-usize-requires c κs = search needs
 
-slice-aggregate-parse : tie.Need-slice-aggregate-parse Inv-loop μ-loop
-slice-aggregate-parse c = sym (length-take-le _ _ (omega arith))
+slice-aggregate-part : tie.Need-slice-aggregate-part Inv-loop μ-loop
+slice-aggregate-part c = search needs
+
+part-requires : tie.Need-part-requires Inv-loop μ-loop
+part-requires c κs = search needs
 
 parse-requires : tie.Need-parse-requires Inv-loop μ-loop
 parse-requires c κs = search needs
@@ -64,15 +65,16 @@ named-spec =
     (tie.spec
     Inv-loop
     μ-loop
-    least-requires
     loop-holds
+    add-byte
     byte-requires
     array-write-name
     add-i
     loop-less
     loop-again
-    array-share-prefix-name
-    slice-aggregate-parse
+    wrapping-sub-usize-requires
+    slice-aggregate-part
+    part-requires
     parse-requires
     enum-known-parsed
     enum-told

@@ -6,10 +6,10 @@ use Rattle.s3w2_script.proofs.calls.write_bytes.Statement.{statement}
 use Rattle.s3w2_script.proofs.calls.write_bytes.Tie as tie
 
 abbrev Inv-loop : tie.InvT-loop
-Inv-loop f count ram₀ chip₀ answer₀ at₀ i₀ ram chip answer at i = length ram ≡ length ram₀
+Inv-loop line ram₀ chip₀ answer₀ at₀ i₀ i-end ram chip answer at i = length ram ≡ length ram₀
 
 abbrev μ-loop : tie.MeasureT-loop
-μ-loop f count ram₀ chip₀ answer₀ at₀ i₀ ram chip answer at i = count - i
+μ-loop line ram₀ chip₀ answer₀ at₀ i₀ i-end ram chip answer at i = i-end - i
 
 word-requires : tie.Need-word-requires Inv-loop μ-loop
 word-requires c κs = search needs
@@ -35,9 +35,6 @@ loop-less c = search needs
 loop-again : tie.Need-loop-again Inv-loop μ-loop
 loop-again c = search needs
 
-told-requires : tie.Need-told-requires Inv-loop μ-loop
-told-requires c κs = search needs
-
 same-length : tie.Need-same-length Inv-loop μ-loop
 same-length c = search needs
 
@@ -58,6 +55,5 @@ write-bytes-spec =
     add-i
     loop-less
     loop-again
-    told-requires
     same-length
     returns)

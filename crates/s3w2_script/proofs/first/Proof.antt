@@ -2,8 +2,8 @@ use mathlib.Core.Path.{sym}
 use lib.Seq.{length-take-le}
 use native.Mathlib.Omega.{arith}
 use borrow.Author.Needs.{needs}
-use Rattle.s3w2_script.proofs.made.Statement.{statement}
-use Rattle.s3w2_script.proofs.made.Tie as tie
+use Rattle.s3w2_script.proofs.first.Statement.{statement}
+use Rattle.s3w2_script.proofs.first.Tie as tie
 
 least-requires : tie.Need-least-requires
 least-requires c κs = search needs
@@ -23,8 +23,8 @@ same-length c = search needs
 returns : tie.Need-returns
 returns c = search needs
 
-pub made-spec : {M : Type 1} → statement M
-made-spec =
+pub first-spec : {M : Type 1} → statement M
+first-spec =
     tie.close
     (tie.spec
     least-requires
