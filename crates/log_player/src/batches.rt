@@ -25,7 +25,7 @@ use log::Line;
 use sizes::STEMS;
 
 // Lines, and frames, of a batch at most. A line has at most so many frames.
-const LINES: usize = 256;
+const LINES: usize = 1024;
 
 const FRAMES: usize = 1000;
 
@@ -72,7 +72,7 @@ fn gather(
     addresses: &mut [u32],
     values: &mut [u8],
 ) -> Gathered
-    requires { ⌜ (1 ≤ most) × (most ≤ 256) ⌝ ∗ ⌜ (most ≤ length (now kinds)) × (most ≤ length (now addresses)) × (most ≤ length (now values)) ⌝ }
+    requires { ⌜ (1 ≤ most) × (most ≤ 1024) ⌝ ∗ ⌜ (most ≤ length (now kinds)) × (most ≤ length (now addresses)) × (most ≤ length (now values)) ⌝ }
     ensures bound { λ r. ⌜ r .count ≤ most ⌝ }
     ensures frames { λ r. ⌜ r .frames ≡ framesAsked (now (kinds .exit)) (now (addresses .exit)) 0 (r .count) ⌝ }
     ensures gathers { λ r. ⌜ Gathers (now (input .entry)) from (r .from) (r .count) budget (now (kinds .exit)) (now (addresses .exit))
