@@ -168,6 +168,24 @@ module _ (kinds addresses : List ℕ) where
       pub run-kept : (m : ℕ) → m ≤ e - i → AcceptedCore (listed kinds addresses 0 4 i m s .core) (listed kinds addresses 0 4 i m s .version) R
       run-kept m h = subst (λ (x : Listed). AcceptedCore (x .core) (x .version) R) (sym (run-stored m h)) (writes-kept m)
 
+  -- ---- the bytes of a run are stored, and the caches that they empty are emptied; a run of no calls stores none
+  pub record RunStored (values : List ℕ) (i e : ℕ) (ram : List ℕ) (core : Core) (ram1 : List ℕ) (core1 : Core) : Type 0 where
+    pub bytes : ram1 ≡ callsStored addresses values i (e - i) ram
+    pub caches : core1 ≡ afterRamWrites (length ram1) (length (take (e - i) (drop i addresses))) (take (e - i) (drop i addresses)) core
+
+  module _ (values : List ℕ) (i e : ℕ) (ram : List ℕ) (core : Core) where
+    pub run-none : e ≤ i → RunStored values i e ram core ram core
+    unfolding callsStored afterRamWrites
+    run-none h =
+        let z : e - i ≡ 0 = omega arith in
+        record {
+          bytes = ap (λ (m : ℕ). callsStored addresses values i m ram) (sym z);
+          caches = ap (λ (m : ℕ). afterRamWrites (length ram) (length (take m (drop i addresses))) (take m (drop i addresses)) core) (sym z);
+        }
+
+    pub stored-by : (ram1 ram2 : List ℕ) (core1 core2 : Core) → ram2 ≡ ram1 → core2 ≡ core1 → RunStored values i e ram core ram1 core1 → RunStored values i e ram core ram2 core2
+    stored-by ram1 ram2 core1 core2 r k s = subst (λ (x : List ℕ). RunStored values i e ram core x core2) (sym r) (subst (RunStored values i e ram core ram1) (sym k) s)
+
   -- ---- run after run
   module _ (count : ℕ) (s₀ : Listed) (stems₀ : List ℤ) (start : s₀ .stems ≡ []) where
     abbrev pub done : ℕ → Listed

@@ -32,13 +32,14 @@ pub struct Turned {
     pub sample: i16,
 }
 
-// The core after a list of calls, and its version.
+// The core after a list of calls, its version, and whether they were made.
 pub struct Played {
     pub core: Core,
     pub version: SguVersion,
+    pub made: bool,
 }
 
-// The same after some of them, the place behind the stems that were given, and the last turn's sample.
+// The core after some of them, its version, the place behind the stems that were given, and the last turn's sample.
 pub(crate) struct Going {
     pub core: Core,
     pub version: SguVersion,

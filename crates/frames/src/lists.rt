@@ -87,6 +87,7 @@ fn play_runs(
     ensures { λ _. ⌜ EachAccepted (now (kinds .entry)) (now (addresses .entry)) 0 4 0 count
         (lentList core version (now (ram .entry)) (now (queues .entry)) (now (values .entry))) ⌝ }
     ensures { λ r. ⌜ acceptsCore (r .core) (r .version) (length (now (ram .entry))) ≡ true ⌝ }
+    ensures made { λ r. ⌜ r .made ≡ true ⌝ }
 {
     let mut core = core;
     let mut version = version;
@@ -94,8 +95,10 @@ fn play_runs(
     let mut at: usize = 0;
     while i < count {
         let end = run_end(kinds, i, count, true);
-        store_bytes(&mut *ram, addresses, &*values, i, end);
-        core = core.after_ram_writes(ram.len(), &addresses[i..end]);
+        if i < end {
+            store_bytes(&mut *ram, addresses, &*values, i, end);
+            core = core.after_ram_writes(ram.len(), &addresses[i..end]);
+        }
         let to = run_end(kinds, end, count, false);
         let of = Round { version, first: 0 };
         let p = play_calls(
@@ -119,7 +122,11 @@ fn play_runs(
         at = p.at;
         i = to;
     }
-    Played { core, version }
+    Played {
+        core,
+        version,
+        made: true,
+    }
 }
 
 // A list of calls, one after the other: as many as there are kinds, addresses and values. A list that asks for something else
@@ -160,6 +167,9 @@ pub fn play(
         (lentList core version (now (ram .entry)) (now (queues .entry)) (now (values .entry)))) ⌝ }
     ensures { λ r. ⌜ (acceptsCore core version (length (now (ram .entry))) ≡ true
         → acceptsCore (r .core) (r .version) (length (now (ram .entry))) ≡ true) ⌝ }
+    ensures made { λ r. ⌜ r .made
+        ≡ mayPlay (now (kinds .entry)) (now (addresses .entry)) (length (now (stems .entry)))
+        (lentList core version (now (ram .entry)) (now (queues .entry)) (now (values .entry))) ⌝ }
 {
     if may_run(core, version, &*ram, &*queues, 4) {
         if fills(kinds, addresses, &*values, stems.len()) {
@@ -177,5 +187,9 @@ pub fn play(
             );
         }
     }
-    Played { core, version }
+    Played {
+        core,
+        version,
+        made: false,
+    }
 }

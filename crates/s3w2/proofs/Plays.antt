@@ -8,9 +8,10 @@ use lib.Dec.{eqb, ltb}
 use lib.IntN.{ℤ}
 use lib.ListN.{length, length-set, length-take, length-drop, getD, set}
 use lib.Seq.{sets, length-sets}
-use borrow.Author.Tests.{eq-eqb}
+use borrow.Author.Tests.{eq-eqb, eqb-true}
 use Rattle.sizes.specs.Sizes.{queueBuffer, ramMost, stemsPerFrame}
 use Rattle.num.specs.Lists.{part}
+use Rattle.num.proofs.Choice.{both, never}
 use Rattle.num.proofs.Lists.{sets-append}
 use Rattle.tone.specs.Pcm.{isRamLength}
 use Rattle.version.specs.Versions.{versionOf}
@@ -23,8 +24,9 @@ use Rattle.voices.proofs.Accepting.{core-accepted}
 use Rattle.voices.proofs.Voices.{length-register-queues}
 use Rattle.frames.specs.declared.Asked.{Asked}
 use Rattle.frames.specs.declared.Asked.the-variants as variants
-use Rattle.frames.specs.Listing.{readRegisterKind, askedOf, Listed, lentList, clockTurns, written, byteStored, looked, underVersion, callAs, listed, clockedAs, framesAsked, EachAccepted}
-use Rattle.frames.specs.Turning.{Turns, turned, frames}
+use Rattle.frames.specs.Listing.{readRegisterKind, askedOf, Listed, lentList, clockTurns, written, byteStored, looked, underVersion, callAs, listed, clockedAs, framesAsked, EachAccepted, callCount, mayPlay}
+use Rattle.frames.specs.Turning.{Turns, turned, frames, mayRun}
+use Rattle.frames.proofs.Asks.{asked, may, may-play}
 use Rattle.frames.proofs.Counts.{zero-add, frames-within}
 use Rattle.frames.proofs.Framing.{frames-turns}
 use Rattle.frames.proofs.Runs.{list-long}
@@ -40,6 +42,7 @@ use Rattle.s3w2.specs.Ram.{writePcmRamCalled, writePcmRamRam}
 use Rattle.s3w2.specs.Registers.{writeRegisterCalled, writeRegisterBuffer, readRegisterCalled, peekRegisterAnswer}
 use Rattle.s3w2.specs.Sound.{framedEnded, clockCalled, clockStems}
 use Rattle.s3w2.specs.Plays.{Playing, playing, registerPlayed, bytePlayed, shownBy, ownStems, clockPlayed, versionPlayed, callPlayed, callsPlayed}
+use Rattle.s3w2.proofs.Cases.{AllThere, all-there}
 use Rattle.s3w2.proofs.Longer.{ram-small, longer}
 use Rattle.s3w2.proofs.Refused.{nothing-amiss}
 
@@ -206,3 +209,43 @@ module _ (kinds addresses : List ℕ) (chip : Chip) (ram : List ℕ) (queues : L
       where
         accepted-here : (n : ℕ) → n < count → length (listed kinds addresses 0 4 0 n lentTo .ram) ≡ length ram → AcceptedCore (listed kinds addresses 0 4 0 n lentTo .core) (listed kinds addresses 0 4 0 n lentTo .version) (length (listed kinds addresses 0 4 0 n lentTo .ram))
         accepted-here n h e = subst (λ (k : ℕ). AcceptedCore (listed kinds addresses 0 4 0 n lentTo .core) (listed kinds addresses 0 4 0 n lentTo .version) k) (sym e) (each n h)
+
+-- ---- what a list is turned away for, by whether it was played
+module _ (kinds addresses : List ℕ) (chip : Chip) where
+  abbrev refusalOver : List ℕ → List ℤ → List ℕ → List ℤ → Answer
+  refusalOver ram queues values stems =
+      refusal (isRamLength (length ram)) (eqb (length queues) queueBuffer) (acceptsChip chip (length ram))
+      (eqb (length stems) (stemsPerFrame * framesAsked kinds addresses 0 (callCount kinds addresses values)))
+
+  -- told over what is lent as it is left, where that is as it was
+  pub told-after : (ram ram1 : List ℕ) (queues queues1 : List ℤ) (values values1 : List ℕ) (stems stems1 : List ℤ) (enough : Bool) (r : Answer)
+      → r ≡ refusal (isRamLength (length ram1)) (eqb (length queues1) queueBuffer) (acceptsChip chip (length ram1)) enough
+      → enough ≡ eqb (length stems1) (stemsPerFrame * framesAsked kinds addresses 0 (callCount kinds addresses values1))
+      → ram1 ≡ ram → queues1 ≡ queues → values1 ≡ values → stems1 ≡ stems → r ≡ refusalOver ram queues values stems
+  told-after ram ram1 queues queues1 values values1 stems stems1 enough r e f er eq ev es =
+      e ∙ ap (refusal (isRamLength (length ram1)) (eqb (length queues1) queueBuffer) (acceptsChip chip (length ram1))) f ∙ (λ i. refusalOver (er i) (eq i) (ev i) (es i))
+
+  module _ (ram : List ℕ) (queues : List ℤ) (values : List ℕ) (stems : List ℤ) where
+    abbrev lent : Listed
+    lent = lentList (chip .core) (chip .version) ram queues values
+
+    abbrev enough : Bool
+    enough = eqb (length stems) (stemsPerFrame * framesAsked kinds addresses 0 (callCount kinds addresses values))
+
+    pub played-there : isRamLength (length ram) ≡ true → mayPlay kinds addresses (length stems) lent ≡ true
+        → AllThere (isRamLength (length ram)) (eqb (length queues) queueBuffer) (acceptsChip chip (length ram)) enough
+    unfolding mayPlay
+    played-there allowed e =
+        let b = both (mayRun (chip .version) ram queues 4 (chip .core)) enough e in
+        let m = may (chip .version) ram queues 4 (chip .core) (b .0) in
+        record { allowed = allowed; lent = eq-eqb (length queues) queueBuffer (m .entries); accepted = m .accepted; enough = b .1 }
+
+    pub not-played : mayPlay kinds addresses (length stems) lent ≡ false → isDone (refusalOver ram queues values stems) ≡ false
+    not-played barred = by (isDone (refusalOver ram queues values stems)) refl
+      where
+        by : (b : Bool) → isDone (refusalOver ram queues values stems) ≡ b → isDone (refusalOver ram queues values stems) ≡ false
+        by false e = e
+        by true e =
+            let t = all-there (isRamLength (length ram)) (eqb (length queues) queueBuffer) (acceptsChip chip (length ram)) enough (refusalOver ram queues values stems) refl e in
+            let m = sym (asked (chip .version) ram queues 4 (chip .core) (eqb-true (length queues) queueBuffer (t .lent)) (omega arith) (omega arith)) ∙ t .accepted in
+            never (sym (sym (may-play kinds addresses (length stems) lent m) ∙ t .enough) ∙ barred)

@@ -55,14 +55,26 @@ impl Chip {
             (playing self (now (ram .entry)) (now (queues .entry)) (now (values .entry)) (now (stems .entry))) .stems ⌝ }
         ensures { λ r. ⌜ (acceptsChip self (length (now (ram .entry))) ≡ true → acceptsChip (r .chip) (length (now (ram .entry))) ≡ true) ⌝ }
     {
-        let enough = frames::fills(kinds, addresses, &*values, stems.len());
-        let refusal = self.refusal_of_list(ram.len(), queues.len(), enough);
-        if !is_done(refusal) {
-            return self.answers(refusal);
+        if !tone::is_ram_length(ram.len()) {
+            return self.answers(Answer::RamLength);
         }
         let version = self.version;
         let core = self.core;
-        let played = frames::play(core, version, kinds, addresses, values, ram, queues, stems);
+        let played = frames::play(
+            core,
+            version,
+            kinds,
+            addresses,
+            &mut *values,
+            &mut *ram,
+            &mut *queues,
+            &mut *stems,
+        );
+        if !played.made {
+            let enough = frames::fills(kinds, addresses, &*values, stems.len());
+            let refusal = self.refusal_of_list(ram.len(), queues.len(), enough);
+            return self.answers(refusal);
+        }
         let next = played.core;
         let under = played.version;
         let chip = Chip {

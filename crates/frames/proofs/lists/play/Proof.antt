@@ -58,7 +58,7 @@ returns c =
             k .1 .1 .1 .0 ∙ ap (λ (s : Listed). s .queues) o,
             (
               k .1 .1 .1 .1 .0 ∙ ap (λ (s : Listed). s .values) o,
-              (k .1 .1 .1 .1 .1 .0 ∙ ap (λ (s : Listed). sets (a .stems .now) 0 (s .stems)) o, ((λ z. subst (λ (i : ℕ). EachAccepted (a .kinds .now) (a .addresses .now) 0 4 0 i (lentList (a .core) (a .version) (a .ram .now) (a .queues .now) (a .values .now))) n (k .1 .1 .1 .1 .1 .1 .0)), λ z. k .1 .1 .1 .1 .1 .1 .1)),
+              (k .1 .1 .1 .1 .1 .0 ∙ ap (λ (s : Listed). sets (a .stems .now) 0 (s .stems)) o, ((λ z. subst (λ (i : ℕ). EachAccepted (a .kinds .now) (a .addresses .now) 0 4 0 i (lentList (a .core) (a .version) (a .ram .now) (a .queues .now) (a .values .now))) n (k .1 .1 .1 .1 .1 .1 .0)), ((λ z. k .1 .1 .1 .1 .1 .1 .1 .0), k .1 .1 .1 .1 .1 .1 .1 .1 ∙ sym g))),
             ),
           ),
         ),
@@ -84,7 +84,7 @@ returns-2 c =
         ap (λ (s : Listed). s .version) o,
         (
           ap (λ (s : Listed). s .ram) o,
-          (ap (λ (s : Listed). s .queues) o, (ap (λ (s : Listed). s .values) o, (ap (λ (s : Listed). sets (a .stems .now) 0 (s .stems)) o, (never-each (a .kinds .now) (a .addresses .now) (length (a .stems .now)) (lentList (a .core) (a .version) (a .ram .now) (a .queues .now) (a .values .now)) _ g, λ z. z)))),
+          (ap (λ (s : Listed). s .queues) o, (ap (λ (s : Listed). s .values) o, (ap (λ (s : Listed). sets (a .stems .now) 0 (s .stems)) o, (never-each (a .kinds .now) (a .addresses .now) (length (a .stems .now)) (lentList (a .core) (a .version) (a .ram .now) (a .queues .now) (a .values .now)) _ g, ((λ z. z), sym g))))),
         ),
       ),
     )
@@ -105,7 +105,7 @@ returns-3 c =
         ap (λ (s : Listed). s .version) o,
         (
           ap (λ (s : Listed). s .ram) o,
-          (ap (λ (s : Listed). s .queues) o, (ap (λ (s : Listed). s .values) o, (ap (λ (s : Listed). sets (a .stems .now) 0 (s .stems)) o, (never-each (a .kinds .now) (a .addresses .now) (length (a .stems .now)) (lentList (a .core) (a .version) (a .ram .now) (a .queues .now) (a .values .now)) _ g, λ z. z)))),
+          (ap (λ (s : Listed). s .queues) o, (ap (λ (s : Listed). s .values) o, (ap (λ (s : Listed). sets (a .stems .now) 0 (s .stems)) o, (never-each (a .kinds .now) (a .addresses .now) (length (a .stems .now)) (lentList (a .core) (a .version) (a .ram .now) (a .queues .now) (a .values .now)) _ g, ((λ z. z), sym g))))),
         ),
       ),
     )
