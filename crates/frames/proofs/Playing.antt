@@ -16,7 +16,7 @@ use Rattle.voices.specs.Accepted.{AcceptedCore}
 use Rattle.voices.specs.declared.Core.{Core}
 use Rattle.frames.specs.declared.Asked.{Asked}
 use Rattle.frames.specs.declared.Asked.the-variants as variants
-use Rattle.frames.specs.Ticking.{Voiced, voiced, voiceTicks}
+use Rattle.frames.specs.Ticking.{voiced, voiceTicks}
 use Rattle.frames.specs.Turning.{Turns, turned}
 use Rattle.frames.specs.Listing.{askedOf, Listed, withTurns, clockTurns, callAs, listed, clockedAs, clockedBy, framesAsked}
 use Rattle.frames.proofs.Loop.{done-more}
@@ -73,17 +73,7 @@ module _ (kinds addresses : List ℕ) (first n turns from to : ℕ) (ram : List 
     pub filled : stems ≡ sets stems₀ at gave
     pub behind : place ≡ at + length gave
     pub left : length gave + 2 * (stop - turn) ≡ 2 * turns + stemsPerFrame * F m
-    pub start : m ≡ 0 → base ≡ s₀
-    pub asked : m ≡ 0 → stop ≡ turns
     pub before : (j : ℕ) → 0 ≤ j → j < m → AcceptedCore (calls j .core) (calls j .version) (length ram)
-
-  -- the sample of the last turn, as long as no call was begun
-  abbrev pub Heard : ℕ → ℕ → Sides → Type 0
-  Heard i turn sides = i ≡ from → sides .sample ≡ turned (s₀ .version) (s₀ .ram) (s₀ .queues) first n turn (s₀ .core) .sample
-
-  pub heard-none : (sides : Sides) → sides ≡ silence → Heard from 0 sides
-  unfolding turned
-  heard-none sides e h = ap (λ (v : Sides). v .sample) e
 
   pub begin : s₀ .ram ≡ ram → s₀ .stems ≡ [] → Ready (s₀ .version) (length ram) (s₀ .core) → length (s₀ .queues) ≡ queueBuffer → length (s₀ .values) ≡ values₀
       → Going (s₀ .core) (s₀ .version) (s₀ .queues) (s₀ .values) stems₀ at from 0 turns
@@ -103,8 +93,6 @@ module _ (kinds addresses : List ℕ) (first n turns from to : ℕ) (ram : List 
     filled = refl;
     behind = omega arith;
     left = omega arith;
-    start = λ z. refl;
-    asked = λ z. refl;
     before = λ j g h. absurd (omega arith);
   }
 
@@ -143,18 +131,8 @@ module _ (kinds addresses : List ℕ) (first n turns from to : ℕ) (ram : List 
             ∙ sym (sets-append (g .gave) two stems₀ at);
         behind = let e = length-append (g .gave) two in omega (arith, e, g .behind);
         left = let e = length-append (g .gave) two in omega (arith, e, g .left, more);
-        start = g .start;
-        asked = g .asked;
         before = g .before;
       }
-
-      pub turn-heard : Heard i (turn + 1) sides
-      turn-heard e =
-          let z : g .m ≡ 0 = omega (arith, e, g .begun) in
-          let b : standing ram core version queues values (g .gave) ≡ clockTurns first n turn s₀ = g .is ∙ ap (clockTurns first n turn) (g .start z) in
-          ap (λ (v : Voiced). v .sides .sample) as-turn
-          ∙ ap (λ (s : Listed). voiceTicks (s .version) (s .ram) (s .queues) ((first + turn) % numChannels) n (voiced (s .core) silence) .sides .sample) b
-          ∙ ap (λ (u : Turns). u .sample) (sym (done-more (s₀ .version) (s₀ .ram) (s₀ .queues) first n (s₀ .core) turn))
 
     -- ---- no turn is left
     module _ (none : stop ≤ turn) where
@@ -169,13 +147,6 @@ module _ (kinds addresses : List ℕ) (first n turns from to : ℕ) (ram : List 
       placed h =
           let e : F (g .m) ≡ F (to - from) = ap F (omega (arith, h, g .within, g .begun)) in
           omega (arith, e, none, g .left, g .behind)
-
-      -- with no call to play
-      pub last-heard : to ≤ from → (sides : Sides) → Heard i turn sides → sides .sample ≡ turned (s₀ .version) (s₀ .ram) (s₀ .queues) first n turns (s₀ .core) .sample
-      last-heard h sides f =
-          let z : g .m ≡ 0 = omega (arith, h, g .within) in
-          let e : turn ≡ turns = omega (arith, none, g .order, g .asked z) in
-          f (omega (arith, z, g .begun)) ∙ ap (λ (k : ℕ). turned (s₀ .version) (s₀ .ram) (s₀ .queues) first n k (s₀ .core) .sample) e
 
       pub each-before : to ≤ i → (j : ℕ) → j < to - from → AcceptedCore (calls j .core) (calls j .version) (length ram)
       each-before h j l = g .before j (omega arith) (omega (arith, h, l, g .within, g .begun))
@@ -207,8 +178,6 @@ module _ (kinds addresses : List ℕ) (first n turns from to : ℕ) (ram : List 
             filled = g .filled;
             behind = g .behind;
             left = omega (arith, f, q, count, g .left, g .order, none);
-            start = λ z. absurd (omega (arith, z));
-            asked = λ z. absurd (omega (arith, z));
             before = grown (λ (j : ℕ). AcceptedCore (calls j .core) (calls j .version) (length ram)) 0 (g .m) (g .before)
                 (subst (λ (s : Listed). AcceptedCore (s .core) (s .version) (length ram)) all-made (g .ready .accepted));
           }

@@ -26,7 +26,7 @@ pub const CLOCK: u8 = 4;
 
 pub const SET_VERSION: u8 = 5;
 
-// The core after some turns, and the last one's sample.
+// The core after a tick, and its sample.
 pub struct Turned {
     pub core: Core,
     pub sample: i16,
@@ -39,12 +39,11 @@ pub struct Played {
     pub made: bool,
 }
 
-// The core after some of them, its version, the place behind the stems that were given, and the last turn's sample.
+// The core after some of them, its version, and the place behind the stems that were given.
 pub(crate) struct Going {
     pub core: Core,
     pub version: SguVersion,
     pub at: usize,
-    pub sample: i16,
 }
 
 // What a call of a list asks for.

@@ -9,12 +9,11 @@ ghost use mir.Syntax.{w16};
 ghost use mir.Val.{SFits};
 ghost use Rattle.sizes.specs.Sizes.{queueBuffer, stemsPerFrame};
 ghost use Rattle.voices.specs.Accepted.{acceptsCore, AcceptedCore};
-ghost use Rattle.frames.specs.Turning.{turned, mayRun, runOf, afterTurns};
+ghost use Rattle.frames.specs.Turning.{mayRun, runOf};
 ghost use Rattle.frames.specs.Listing.{lentList, clockTurns, listed, framesAsked, EachAccepted, AllStore};
 use crate::Asked;
 use crate::Going;
 use crate::Round;
-use crate::Turned;
 use crate::asking::asked;
 use crate::asking::look_empties;
 use sizes::FIFO_CAPACITY;
@@ -33,8 +32,9 @@ fn put_sides(stems: &mut [i16], at: usize, sides: Sides)
 }
 
 // Some turns, then the calls of a list from `from` to before `to`, none of which writes to the RAM: a clock of m frames is 8 m
-// turns. The eight voices stay in one place. A stream's cache is stored only where its ticks may have changed it. Where not
-// every tick was served the voice is read anew: ticks that are served then read no more of it than they use.
+// turns. The eight voices stay in one place. A stream's cache is stored only where its ticks may have changed it. After the
+// ticks that are served the voice is read anew: they then read no more of it than they use, and of what they do not change
+// nothing is stored.
 pub(crate) fn play_calls(
     core: Core,
     of: Round,
@@ -72,8 +72,6 @@ pub(crate) fn play_calls(
         (clockTurns (of .first) n turns (lentList core (of .version) (now (ram .entry)) (now (queues .entry)) (now (values .entry)))) .stems) ⌝ }
     ensures at { λ r. ⌜ r .at
         ≡ at + (2 * turns + stemsPerFrame * framesAsked (now (kinds .entry)) (now (addresses .entry)) from (to - from)) ⌝ }
-    ensures sample { λ r. ⌜ (to ≤ from → r .sample
-        ≡ turned (of .version) (now (ram .entry)) (now (queues .entry)) (of .first) n turns core .sample) ⌝ }
     ensures { λ r. ⌜ AcceptedCore (r .core) (r .version) (length (now (ram .entry))) ⌝ }
     ensures { λ _. ⌜ EachAccepted (now (kinds .entry)) (now (addresses .entry)) (of .first) n from (to - from)
         (clockTurns (of .first) n turns (lentList core (of .version) (now (ram .entry)) (now (queues .entry)) (now (values .entry)))) ⌝ }
@@ -82,7 +80,6 @@ pub(crate) fn play_calls(
     let first = of.first;
     let mut core = core;
     let mut version = of.version;
-    let mut sides = Sides::silent();
     let mut place = at;
     let mut i = from;
     let mut turn: usize = 0;
@@ -91,8 +88,9 @@ pub(crate) fn play_calls(
         if turn < stop {
             let of = Round { version, first };
             let ch = of.channel(turn);
+            let mut sides = Sides::silent();
             match core.channels[ch].kind() {
-                Kind::Silent => sides = Sides::silent(),
+                Kind::Silent => {}
                 Kind::Oscillator => {
                     let c = core.channels[ch];
                     let a = c.target_channel(ch);
@@ -105,7 +103,8 @@ pub(crate) fn play_calls(
                     let c = core.channels[ch];
                     let r = of.served(c, n, &core.fragments, ch);
                     if r.ticks == n {
-                        core.channels[ch] = c.after_served(r);
+                        let d = core.channels[ch];
+                        core.channels[ch] = d.after_served(r);
                         sides = r.sides;
                     } else {
                         let d = core.channels[ch];
@@ -126,12 +125,10 @@ pub(crate) fn play_calls(
             turn += 1;
         } else {
             if to <= i {
-                let sample = sides.sample;
                 return Going {
                     core,
                     version,
                     at: place,
-                    sample,
                 };
             }
             turn = 0;
@@ -216,14 +213,12 @@ pub fn run(
     first: usize,
     ticks: usize,
     stems: &mut [i16],
-) -> Turned
-    ensures result { λ r. ⌜ r ≡ afterTurns
-        (runOf version (now (ram .entry)) (now (queues .entry)) first ticks (length (now (stems .entry)) / 2) core) ⌝ }
+) -> Core
+    ensures result { λ r. ⌜ r ≡ runOf version (now (ram .entry)) (now (queues .entry)) first ticks (length (now (stems .entry)) / 2) core .core ⌝ }
     ensures stems { λ _. ⌜ now (stems .exit)
         ≡ sets (now (stems .entry)) 0
         (runOf version (now (ram .entry)) (now (queues .entry)) first ticks (length (now (stems .entry)) / 2) core .stems) ⌝ }
-    ensures { λ r. ⌜ (acceptsCore core version (length (now (ram .entry))) ≡ true → acceptsCore (r .core) version (length (now (ram .entry)))
-        ≡ true) ⌝ }
+    ensures { λ r. ⌜ (acceptsCore core version (length (now (ram .entry))) ≡ true → acceptsCore r version (length (now (ram .entry))) ≡ true) ⌝ }
     ensures queues { λ _. ⌜ now (queues .exit) ≡ now (queues .entry) ⌝ }
 {
     if may_run(core, version, ram, &*queues, ticks) {
@@ -247,9 +242,7 @@ pub fn run(
             stems,
             0,
         );
-        let core = p.core;
-        let sample = p.sample;
-        return Turned { core, sample };
+        return p.core;
     }
-    Turned { core, sample: 0 }
+    core
 }

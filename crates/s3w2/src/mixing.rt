@@ -51,7 +51,7 @@ fn add_frames(
 {
     let next = frames::run(core, version, ram, queues, 0, 4, &mut *stems);
     sides::add(&*stems, left, right, first);
-    next.core
+    next
 }
 
 fn add_frames_i32(
@@ -78,7 +78,7 @@ fn add_frames_i32(
 {
     let next = frames::run(core, version, ram, queues, 0, 4, &mut *stems);
     sides::add_i32(&*stems, left, right, first);
-    next.core
+    next
 }
 
 impl Chip {

@@ -56,8 +56,7 @@ impl Chip {
         let core = self.core;
         let before = core.channels;
         let was = voices::actives(before);
-        let turned = frames::run(core, version, ram, queues, 0, 4, stems);
-        let next = turned.core;
+        let next = frames::run(core, version, ram, queues, 0, 4, stems);
         let after = next.channels;
         self.with_core(next, Answer::Ended(voices::ended(was, after)))
     }

@@ -100,7 +100,7 @@ loop-again c =
     (λ w. stored-by (a .kinds .now) (a .addresses .now) (l .values) (l .i) (r .result) (l .ram) (l .core) _ _ _ _ (w .1) (w .2) (run-none (a .kinds .now) (a .addresses .now) (l .values) (l .i) (r .result) (l .ram) (l .core) (w .0 .left)))
     (j .came) in
     let k = c .before .before .before .before .before .play-calls .ensures in (
-      run-made (a .kinds .now) (a .addresses .now) (a .count) (lentList (a .core) (a .version) (a .ram .now) (a .queues .now) (a .values .now)) (a .stems .now) refl (l .core) (l .version) (l .ram) (l .queues) (l .values) (l .stems) (l .i) (l .at) g (r .result) (q .result) (r .ensures .0 .0) (q .ensures .0 .0) (q .ensures .0 .1) (l .inv .2) (r .ensures .1 .0) (j .ram) (j .core) (s .bytes) (s .caches) (q .ensures .1 .0) _ _ _ _ _ _ (k .0) (k .1 .0) (k .1 .1 .0) (k .1 .1 .1 .0) (k .1 .1 .1 .1 .0) (k .1 .1 .1 .1 .1 .0) (k .1 .1 .1 .1 .1 .1 .1 .0) (k .1 .1 .1 .1 .1 .1 .1 .1 .0) (k .1 .1 .1 .1 .1 .1 .1 .1 .1 .0) (k .1 .1 .1 .1 .1 .1 .1 .1 .1 .1),
+      run-made (a .kinds .now) (a .addresses .now) (a .count) (lentList (a .core) (a .version) (a .ram .now) (a .queues .now) (a .values .now)) (a .stems .now) refl (l .core) (l .version) (l .ram) (l .queues) (l .values) (l .stems) (l .i) (l .at) g (r .result) (q .result) (r .ensures .0 .0) (q .ensures .0 .0) (q .ensures .0 .1) (l .inv .2) (r .ensures .1 .0) (j .ram) (j .core) (s .bytes) (s .caches) (q .ensures .1 .0) _ _ _ _ _ _ (k .0) (k .1 .0) (k .1 .1 .0) (k .1 .1 .1 .0) (k .1 .1 .1 .1 .0) (k .1 .1 .1 .1 .1 .0) (k .1 .1 .1 .1 .1 .1 .0) (k .1 .1 .1 .1 .1 .1 .1 .0) (k .1 .1 .1 .1 .1 .1 .1 .1 .0) (k .1 .1 .1 .1 .1 .1 .1 .1 .1),
       l .inv .1,
       l .inv .2,
       l .inv .3,

@@ -7,9 +7,7 @@ use native.Mathlib.Omega.{arith}
 use lib.Dec.{eqb}
 use lib.ListN.{length, getD}
 use lib.Seq.{sets, length-sets}
-use mir.Syntax.{w16}
 use Rattle.sizes.specs.Sizes.{stemsPerFrame}
-use Rattle.num.proofs.Integers.{back}
 use Rattle.ticks.proofs.Sums.{stem-fits}
 use Rattle.voices.proofs.Accepting.{accepted-core}
 use Rattle.voices.proofs.Listed.{wrote-wavetable, wrote-block, wrote-above}
@@ -17,7 +15,7 @@ use Rattle.voices.proofs.Storing.{stored-emptied, stored-kept}
 use Rattle.frames.specs.Listing.{readRegisterKind, Listed, lentList, framesAsked}
 use Rattle.frames.proofs.Calling.{Begins, begins-by, nothing-begins, clock-begins, store-none, write-begins, look-begins, version-begins, look-byte, look-emptied, look-kept}
 use Rattle.frames.proofs.Fits.{sized, bytes}
-use Rattle.frames.proofs.Playing.{standing, Going, Heard, heard-none, begin, has-room, turn-made, turn-heard, over, placed, last-heard, each-before, call-begun, less-left, clocked-most}
+use Rattle.frames.proofs.Playing.{standing, Going, begin, has-room, turn-made, over, placed, each-before, call-begun, less-left, clocked-most}
 use Rattle.frames.proofs.Turns.{Turn, silent-turn, sound-turn, queue-turn, served-most, served-turn, stream-turn, turn-by}
 use Rattle.frames.proofs.loops.play_calls.Statement.{statement}
 use Rattle.frames.proofs.loops.play_calls.Tie as tie
@@ -50,27 +48,22 @@ use Rattle.voices.proofs.seen.Reads as seen-reads
 use Rattle.voices.proofs.clear_fragments.Reads as clear-fragments-reads
 
 abbrev Inv-loop : tie.InvT-loop
-Inv-loop n turns kinds addresses values₀ from to ram queues₀ stems₀ at first core₀ version₀ sides₀ place₀ i₀ turn₀ stop₀ values queues stems core version sides place i turn stop =
+Inv-loop n turns kinds addresses values₀ from to ram queues₀ stems₀ at first core₀ version₀ place₀ i₀ turn₀ stop₀ values queues stems core version place i turn stop =
     Going kinds addresses first n turns from to ram (lentList core₀ version₀ ram queues₀ values₀) stems₀ at (length values₀) core version queues values stems place i turn stop
-    × Heard kinds addresses first n turns from to ram (lentList core₀ version₀ ram queues₀ values₀) stems₀ at (length values₀) i turn sides
     × (to ≤ length kinds) × (to ≤ length addresses) × (to ≤ length values₀) × (at + (2 * turns + stemsPerFrame * framesAsked kinds addresses from (to - from)) ≤ length stems₀) × (stop < 2 ^ 64) × (length stems₀ < 2 ^ 64)
 
 abbrev μ-loop : tie.MeasureT-loop
-μ-loop n turns kinds addresses values₀ from to ram queues₀ stems₀ at first core₀ version₀ sides₀ place₀ i₀ turn₀ stop₀ values queues stems core version sides place i turn stop = stop - turn + (8 * (framesAsked kinds addresses from (to - from) - framesAsked kinds addresses from (i - from)) + (to - i))
+μ-loop n turns kinds addresses values₀ from to ram queues₀ stems₀ at first core₀ version₀ place₀ i₀ turn₀ stop₀ values queues stems core version place i turn stop = stop - turn + (8 * (framesAsked kinds addresses from (to - from) - framesAsked kinds addresses from (i - from)) + (to - i))
 
-silent-requires : tie.Need-silent-requires Inv-loop μ-loop
-silent-requires c κs = search needs
-
-stems-fit : (b : lts.Start (silent-reads.Asked, silent-reads.Learnt, channel-reads.Asked, channel-reads.Learnt, kind-reads.Asked, kind-reads.Learnt, target-channel-reads.Asked, target-channel-reads.Learnt, target-reads.Asked, target-reads.Learnt, oscillator-reads.Asked, oscillator-reads.Learnt, after-sound-reads.Asked, after-sound-reads.Learnt, served-reads.Asked, served-reads.Learnt, after-served-reads.Asked, after-served-reads.Learnt, stream-reads.Asked, stream-reads.Learnt, after-stream-reads.Asked, after-stream-reads.Learnt, queue-reads.Asked, queue-reads.Learnt, after-queue-reads.Asked, after-queue-reads.Learnt, put-sides-reads.Asked, put-sides-reads.Learnt, asked-reads.Asked, asked-reads.Learnt, channel-of-reads.Asked, channel-of-reads.Learnt, offset-of-reads.Asked, offset-of-reads.Learnt, write-at-reads.Asked, write-at-reads.Learnt, empties-reads.Asked, empties-reads.Learnt, clear-fragments-reads.Asked, clear-fragments-reads.Learnt, seen-reads.Asked, seen-reads.Learnt, look-empties-reads.Asked, look-empties-reads.Learnt, after-read-reads.Asked, after-read-reads.Learnt, numbered-reads.Asked, numbered-reads.Learnt, set-version-reads.Asked, set-version-reads.Learnt) reads.Pre reads.Post Inv-loop μ-loop) → length (b .args .stems .now) < 2 ^ 64
+stems-fit : (b : lts.Start (channel-reads.Asked, channel-reads.Learnt, silent-reads.Asked, silent-reads.Learnt, kind-reads.Asked, kind-reads.Learnt, target-channel-reads.Asked, target-channel-reads.Learnt, target-reads.Asked, target-reads.Learnt, oscillator-reads.Asked, oscillator-reads.Learnt, after-sound-reads.Asked, after-sound-reads.Learnt, served-reads.Asked, served-reads.Learnt, after-served-reads.Asked, after-served-reads.Learnt, stream-reads.Asked, stream-reads.Learnt, after-stream-reads.Asked, after-stream-reads.Learnt, queue-reads.Asked, queue-reads.Learnt, after-queue-reads.Asked, after-queue-reads.Learnt, put-sides-reads.Asked, put-sides-reads.Learnt, asked-reads.Asked, asked-reads.Learnt, channel-of-reads.Asked, channel-of-reads.Learnt, offset-of-reads.Asked, offset-of-reads.Learnt, write-at-reads.Asked, write-at-reads.Learnt, empties-reads.Asked, empties-reads.Learnt, clear-fragments-reads.Asked, clear-fragments-reads.Learnt, seen-reads.Asked, seen-reads.Learnt, look-empties-reads.Asked, look-empties-reads.Learnt, after-read-reads.Asked, after-read-reads.Learnt, numbered-reads.Asked, numbered-reads.Learnt, set-version-reads.Asked, set-version-reads.Learnt) reads.Pre reads.Post Inv-loop μ-loop) → length (b .args .stems .now) < 2 ^ 64
 stems-fit b = search needs
 
 loop-holds : tie.Need-loop-holds Inv-loop μ-loop
 loop-holds c =
-    let b = c .before .before .before .before .before in
+    let b = c .before .before .before .before in
     let a = b .args in (
       begin (a .kinds .now) (a .addresses .now) (a .of .first) (a .n) (a .turns) (a .from) (a .to) (a .ram .now) (lentList (a .core) (a .of .version) (a .ram .now) (a .queues .now) (a .values .now)) (a .stems .now) (a .at) (length (a .values .now)) refl refl
           (record { accepted = accepted-core (a .core) (a .of .version) (length (a .ram .now)) (sized (a .core) (b .good .0 .1 .1)) (b .pre .1 .1 .0); bytes = bytes (a .core) (b .good .0 .1 .1) }) (b .pre .1 .0) refl,
-      heard-none (a .kinds .now) (a .addresses .now) (a .of .first) (a .n) (a .turns) (a .from) (a .to) (a .ram .now) (lentList (a .core) (a .of .version) (a .ram .now) (a .queues .now) (a .values .now)) (a .stems .now) (a .at) (length (a .values .now)) _ (c .silent .ensures),
       b .pre .1 .1 .1 .0 .0,
       b .pre .1 .1 .1 .0 .1,
       b .pre .1 .1 .1 .0 .2,
@@ -81,6 +74,9 @@ loop-holds c =
 
 channel-requires : tie.Need-channel-requires Inv-loop μ-loop
 channel-requires c κs = search needs
+
+silent-requires : tie.Need-silent-requires Inv-loop μ-loop
+silent-requires c κs = search needs
 
 mul-kind : tie.Need-mul-kind Inv-loop μ-loop
 mul-kind c = search needs
@@ -93,9 +89,6 @@ kind-requires c κs = search needs
 
 enum-told : tie.Need-enum-told Inv-loop μ-loop
 enum-told c = search needs
-
-silent-requires-2 : tie.Need-silent-requires-2 Inv-loop μ-loop
-silent-requires-2 c κs = search needs
 
 enum-told-2 : tie.Need-enum-told-2 Inv-loop μ-loop
 enum-told-2 c = search needs
@@ -125,10 +118,10 @@ after-sound-requires : tie.Need-after-sound-requires Inv-loop μ-loop
 after-sound-requires c κs = search needs
 
 mul-t52 : tie.Need-mul-t52 Inv-loop μ-loop
-mul-t52 c = record { fits = omega (arith, c .before .before .before .before .before .before .before .before .before .before .before .before .channel .ensures .1) }
+mul-t52 c = record { fits = omega (arith, c .before .before .before .before .before .before .before .before .before .before .before .before .before .channel .ensures .1) }
 
 element-set-from-core : tie.Need-element-set-from-core Inv-loop μ-loop
-element-set-from-core c = c .before .before .before .before .before .before .before .before .before .before .before .before .channel .ensures .1
+element-set-from-core c = c .before .before .before .before .before .before .before .before .before .before .before .before .before .channel .ensures .1
 
 enum-told-3 : tie.Need-enum-told-3 Inv-loop μ-loop
 enum-told-3 c = search needs
@@ -142,38 +135,44 @@ element-copy-out-c-2 c = search needs
 served-requires : tie.Need-served-requires Inv-loop μ-loop
 served-requires c κs = search needs
 
+mul-d : tie.Need-mul-d Inv-loop μ-loop
+mul-d c = record { fits = omega (arith, c .before .before .before .before .before .before .before .before .before .before .before .channel .ensures .1) }
+
+element-copy-out-d : tie.Need-element-copy-out-d Inv-loop μ-loop
+element-copy-out-d c = c .before .before .before .before .before .before .before .before .before .before .before .channel .ensures .1
+
 after-served-requires : tie.Need-after-served-requires Inv-loop μ-loop
 after-served-requires c κs = search needs
 
-mul-t68 : tie.Need-mul-t68 Inv-loop μ-loop
-mul-t68 c = record { fits = omega (arith, c .before .before .before .before .before .before .before .before .before .before .before .channel .ensures .1) }
+mul-t67 : tie.Need-mul-t67 Inv-loop μ-loop
+mul-t67 c = record { fits = omega (arith, c .before .before .before .before .before .before .before .before .before .before .before .before .before .channel .ensures .1) }
 
 element-set-from-core-2 : tie.Need-element-set-from-core-2 Inv-loop μ-loop
-element-set-from-core-2 c = c .before .before .before .before .before .before .before .before .before .before .before .channel .ensures .1
+element-set-from-core-2 c = c .before .before .before .before .before .before .before .before .before .before .before .before .before .channel .ensures .1
 
-mul-d : tie.Need-mul-d Inv-loop μ-loop
-mul-d c = record { fits = omega (arith, c .before .before .before .before .before .before .before .before .before .before .channel .ensures .1) }
+mul-d-2 : tie.Need-mul-d-2 Inv-loop μ-loop
+mul-d-2 c = record { fits = omega (arith, c .before .before .before .before .before .before .before .before .before .before .before .channel .ensures .1) }
 
-element-copy-out-d : tie.Need-element-copy-out-d Inv-loop μ-loop
-element-copy-out-d c = c .before .before .before .before .before .before .before .before .before .before .channel .ensures .1
+element-copy-out-d-2 : tie.Need-element-copy-out-d-2 Inv-loop μ-loop
+element-copy-out-d-2 c = c .before .before .before .before .before .before .before .before .before .before .before .channel .ensures .1
 
 stream-requires : tie.Need-stream-requires Inv-loop μ-loop
 stream-requires c κs =
     let b = c .before .before .before .before .before .before .before .before .before .before .before .before .before .before .before .before .before .before .before .before in
     let a = b .args in
-    let l = c .before .before .before .before .before .before .before .before .before .before .before .before .before .before .loop in
+    let l = c .before .before .before .before .before .before .before .before .before .before .before .before .before .before .before .loop in
     let g = l .inv .0 in
-    let ch = c .before .before .before .before .before .before .before .before .before .before .before .before .channel in
+    let ch = c .before .before .before .before .before .before .before .before .before .before .before .before .before .channel in
     (ch .ensures .1, served-most (l .version) (a .ram .now) (l .queues) (ch .result) (a .n) (l .core) (b .pre .0 .0) (b .pre .0 .1) (ch .ensures .1) (g .ready) (sym (c .before .before .before .before .before .before .before .before .before .before .kind .ensures) ∙ c .before .before .before .before .before .before .before .before .enum-told3 .given .1) (c .before .before .before .before .served .ensures .1) (c .before .before .before .before .served .result) (c .before .before .before .before .served .ensures .0))
 
 after-stream-requires : tie.Need-after-stream-requires Inv-loop μ-loop
 after-stream-requires c κs = search needs
 
-mul-t71 : tie.Need-mul-t71 Inv-loop μ-loop
-mul-t71 c = record { fits = omega (arith, c .before .before .before .before .before .before .before .before .before .before .before .before .before .before .channel .ensures .1) }
+mul-t73 : tie.Need-mul-t73 Inv-loop μ-loop
+mul-t73 c = record { fits = omega (arith, c .before .before .before .before .before .before .before .before .before .before .before .before .before .before .before .channel .ensures .1) }
 
 element-set-from-core-3 : tie.Need-element-set-from-core-3 Inv-loop μ-loop
-element-set-from-core-3 c = c .before .before .before .before .before .before .before .before .before .before .before .before .before .before .channel .ensures .1
+element-set-from-core-3 c = c .before .before .before .before .before .before .before .before .before .before .before .before .before .before .before .channel .ensures .1
 
 enum-told-4 : tie.Need-enum-told-4 Inv-loop μ-loop
 enum-told-4 c = search needs
@@ -185,64 +184,64 @@ element-copy-out-c-3 : tie.Need-element-copy-out-c-3 Inv-loop μ-loop
 element-copy-out-c-3 c = search needs
 
 queue-requires : tie.Need-queue-requires Inv-loop μ-loop
-queue-requires c κs = (c .before .before .before .before .before .before .before .before .before .before .before .before .before .before .pre .0 .1, (c .before .before .before .before .before .before .channel .ensures .1, c .before .before .before .before .before .before .before .before .loop .inv .0 .entries))
+queue-requires c κs = (c .before .before .before .before .before .before .before .before .before .before .before .before .before .before .pre .0 .1, (c .before .before .before .before .before .before .before .channel .ensures .1, c .before .before .before .before .before .before .before .before .before .loop .inv .0 .entries))
 
 after-queue-requires : tie.Need-after-queue-requires Inv-loop μ-loop
 after-queue-requires c κs = search needs
 
-mul-t78 : tie.Need-mul-t78 Inv-loop μ-loop
-mul-t78 c = record { fits = omega (arith, c .before .before .before .before .before .before .before .before .before .channel .ensures .1) }
+mul-t80 : tie.Need-mul-t80 Inv-loop μ-loop
+mul-t80 c = record { fits = omega (arith, c .before .before .before .before .before .before .before .before .before .before .channel .ensures .1) }
 
 element-set-from-core-4 : tie.Need-element-set-from-core-4 Inv-loop μ-loop
-element-set-from-core-4 c = c .before .before .before .before .before .before .before .before .before .channel .ensures .1
+element-set-from-core-4 c = c .before .before .before .before .before .before .before .before .before .before .channel .ensures .1
 
 -- the voice's turn, whichever way it came
 abbrev Came : Type 0
-Came = lts.At-match-came (silent-reads.Asked, silent-reads.Learnt, channel-reads.Asked, channel-reads.Learnt, kind-reads.Asked, kind-reads.Learnt, target-channel-reads.Asked, target-channel-reads.Learnt, target-reads.Asked, target-reads.Learnt, oscillator-reads.Asked, oscillator-reads.Learnt, after-sound-reads.Asked, after-sound-reads.Learnt, served-reads.Asked, served-reads.Learnt, after-served-reads.Asked, after-served-reads.Learnt, stream-reads.Asked, stream-reads.Learnt, after-stream-reads.Asked, after-stream-reads.Learnt, queue-reads.Asked, queue-reads.Learnt, after-queue-reads.Asked, after-queue-reads.Learnt, put-sides-reads.Asked, put-sides-reads.Learnt, asked-reads.Asked, asked-reads.Learnt, channel-of-reads.Asked, channel-of-reads.Learnt, offset-of-reads.Asked, offset-of-reads.Learnt, write-at-reads.Asked, write-at-reads.Learnt, empties-reads.Asked, empties-reads.Learnt, clear-fragments-reads.Asked, clear-fragments-reads.Learnt, seen-reads.Asked, seen-reads.Learnt, look-empties-reads.Asked, look-empties-reads.Learnt, after-read-reads.Asked, after-read-reads.Learnt, numbered-reads.Asked, numbered-reads.Learnt, set-version-reads.Asked, set-version-reads.Learnt) reads.Pre reads.Post Inv-loop μ-loop
+Came = lts.At-match-came (channel-reads.Asked, channel-reads.Learnt, silent-reads.Asked, silent-reads.Learnt, kind-reads.Asked, kind-reads.Learnt, target-channel-reads.Asked, target-channel-reads.Learnt, target-reads.Asked, target-reads.Learnt, oscillator-reads.Asked, oscillator-reads.Learnt, after-sound-reads.Asked, after-sound-reads.Learnt, served-reads.Asked, served-reads.Learnt, after-served-reads.Asked, after-served-reads.Learnt, stream-reads.Asked, stream-reads.Learnt, after-stream-reads.Asked, after-stream-reads.Learnt, queue-reads.Asked, queue-reads.Learnt, after-queue-reads.Asked, after-queue-reads.Learnt, put-sides-reads.Asked, put-sides-reads.Learnt, asked-reads.Asked, asked-reads.Learnt, channel-of-reads.Asked, channel-of-reads.Learnt, offset-of-reads.Asked, offset-of-reads.Learnt, write-at-reads.Asked, write-at-reads.Learnt, empties-reads.Asked, empties-reads.Learnt, clear-fragments-reads.Asked, clear-fragments-reads.Learnt, seen-reads.Asked, seen-reads.Learnt, look-empties-reads.Asked, look-empties-reads.Learnt, after-read-reads.Asked, after-read-reads.Learnt, numbered-reads.Asked, numbered-reads.Learnt, set-version-reads.Asked, set-version-reads.Learnt) reads.Pre reads.Post Inv-loop μ-loop
 
 came : (c : Came)
-    → (let q = c .before in let a = q .before .before .before .before .before .before .before .before .before .before .args in let l = q .before .before .before .before .loop in
-    Turn (l .version) (a .ram .now) (l .queues) (q .before .before .channel .result) (a .n) (l .core) (c .match .core) (c .match .sides))
+    → (let q = c .before in let a = q .before .before .before .before .before .before .before .before .before .before .args in let l = q .before .before .before .before .before .loop in
+    Turn (l .version) (a .ram .now) (l .queues) (q .before .before .before .channel .result) (a .n) (l .core) (c .match .core) (c .match .sides))
 came c =
     let q = c .before in
     let b = q .before .before .before .before .before .before .before .before .before .before in
     let a = b .args in
-    let ch = q .before .before .channel .result in
-    let l = q .before .before .before .before .loop in
-    let there = q .before .before .channel .ensures .1 in
+    let ch = q .before .before .before .channel .result in
+    let l = q .before .before .before .before .before .loop in
+    let there = q .before .before .before .channel .ensures .1 in
     let is = sym (q .kind .ensures) in
     let low = b .pre .0 .0 in
     let high = b .pre .0 .1 in
     let ready = l .inv .0 .ready in
     ⊎-elim
-    (λ w. turn-by (w .4) (w .5 ∙ w .2 .ensures) (silent-turn (l .version) (a .ram .now) (l .queues) ch (a .n) (l .core) low high there ready (is ∙ w .1 .given .1)))
+    (λ w. turn-by (w .3) (w .4 ∙ q .before .before .silent .ensures) (silent-turn (l .version) (a .ram .now) (l .queues) ch (a .n) (l .core) low high there ready (is ∙ w .1 .given .1)))
     (⊎-elim
     (λ w. turn-by (w .12) (w .13) (sound-turn (l .version) (a .ram .now) (l .queues) ch (a .n) (l .core) low high there ready (is ∙ w .1 .given .1) (w .3 .result) (w .5 .result) (w .8 .result) (w .9 .result) (w .3 .ensures .0) (w .5 .ensures) (w .8 .ensures .0) (w .8 .ensures .1) (w .9 .ensures)))
     (⊎-elim
-    (λ w. turn-by (w .11) (w .12) (served-turn (l .version) (a .ram .now) (l .queues) ch (a .n) (l .core) low high there ready (is ∙ w .1 .given .1) (w .5 .ensures .1) (w .5 .result) (w .5 .ensures .0) (w .8 .result) (w .7 .taken) (w .8 .ensures)))
+    (λ w. turn-by (w .12) (w .13) (served-turn (l .version) (a .ram .now) (l .queues) ch (a .n) (l .core) low high there ready (is ∙ w .1 .given .1) (w .5 .ensures .1) (w .5 .result) (w .5 .ensures .0) (w .9 .result) (w .7 .taken) (w .9 .ensures)))
     (⊎-elim
     (λ w. turn-by (w .14) (w .15) (stream-turn (l .version) (a .ram .now) (l .queues) ch (a .n) (l .core) low high there ready (is ∙ w .1 .given .1) (w .5 .ensures .1) (w .5 .result) (w .5 .ensures .0) (w .10 .result) _ (w .11 .result) (w .10 .ensures) (w .11 .ensures)))
     (λ w. turn-by (w .9) (w .10) (queue-turn (l .version) (a .ram .now) (l .queues) ch (a .n) (l .core) low high there ready (is ∙ w .1 .given .1) (w .4 .result) (w .6 .result) (w .4 .ensures .0) (w .4 .ensures .1 .0) (w .6 .ensures))))))
     (c .match .came)
 
 -- the stem buffer is as long as it was
-long : (c : Came) → (let a = c .before .before .before .before .before .before .before .before .before .before .before .args in length (c .before .before .before .before .before .loop .stems) ≡ length (a .stems .now))
+long : (c : Came) → (let a = c .before .before .before .before .before .before .before .before .before .before .before .args in length (c .before .before .before .before .before .before .loop .stems) ≡ length (a .stems .now))
 long c =
-    let l = c .before .before .before .before .before .loop in
+    let l = c .before .before .before .before .before .before .loop in
     let a = c .before .before .before .before .before .before .before .before .before .before .before .args in
     ap length (l .inv .0 .filled) ∙ length-sets (a .stems .now) (a .at) (l .inv .0 .gave)
 
 -- no voice's turn changes an entry
-kept : (c : Came) → c .match .queues ≡ c .before .before .before .before .before .loop .queues
-kept c = ⊎-elim (λ w. w .3) (⊎-elim (λ w. w .11) (⊎-elim (λ w. w .10) (⊎-elim (λ w. w .13) (λ w. w .8 ∙ w .4 .ensures .1 .1)))) (c .match .came)
+kept : (c : Came) → c .match .queues ≡ c .before .before .before .before .before .before .loop .queues
+kept c = ⊎-elim (λ w. w .2) (⊎-elim (λ w. w .11) (⊎-elim (λ w. w .11) (⊎-elim (λ w. w .13) (λ w. w .8 ∙ w .4 .ensures .1 .1)))) (c .match .came)
 
-roomy : (c : Came) → (let l = c .before .before .before .before .before .loop in l .place + 2 ≤ length (l .stems))
+roomy : (c : Came) → (let l = c .before .before .before .before .before .before .loop in l .place + 2 ≤ length (l .stems))
 roomy c =
     let b = c .before .before .before .before .before .before .before .before .before .before .before in
     let a = b .args in
-    let l = c .before .before .before .before .before .loop in
+    let l = c .before .before .before .before .before .before .loop in
     let g = l .inv .0 in
-    has-room (a .kinds .now) (a .addresses .now) (a .of .first) (a .n) (a .turns) (a .from) (a .to) (a .ram .now) (lentList (a .core) (a .of .version) (a .ram .now) (a .queues .now) (a .values .now)) (a .stems .now) (a .at) (length (a .values .now)) (l .core) (l .version) (l .queues) (l .values) (l .stems) (l .place) (l .i) (l .turn) (l .stop) g (c .before .before .before .before .if1 .taken) (l .inv .5)
+    has-room (a .kinds .now) (a .addresses .now) (a .of .first) (a .n) (a .turns) (a .from) (a .to) (a .ram .now) (lentList (a .core) (a .of .version) (a .ram .now) (a .queues .now) (a .values .now)) (a .stems .now) (a .at) (length (a .values .now)) (l .core) (l .version) (l .queues) (l .values) (l .stems) (l .place) (l .i) (l .turn) (l .stop) g (c .before .before .before .before .before .if1 .taken) (l .inv .4)
 
 put-sides-requires : tie.Need-put-sides-requires Inv-loop μ-loop
 put-sides-requires c κs = (let h = roomy (c .before) in omega (arith, h), stem-fits _ (came (c .before) .room))
@@ -250,70 +249,69 @@ put-sides-requires c κs = (let h = roomy (c .before) in omega (arith, h), stem-
 add-place : tie.Need-add-place Inv-loop μ-loop
 add-place c =
     let h = roomy (c .before .before .before) in
-    record { fits = omega (arith, h, long (c .before .before .before), c .before .before .before .before .before .before .before .before .loop .inv .7) }
+    record { fits = omega (arith, h, long (c .before .before .before), c .before .before .before .before .before .before .before .before .before .loop .inv .6) }
 
 add-turn : tie.Need-add-turn Inv-loop μ-loop
 add-turn c =
     let b = c .before .before .before .before .before .before .before .before .before .before .before .before .before .before in
     let a = b .args in
-    let l = c .before .before .before .before .before .before .before .before .loop in
+    let l = c .before .before .before .before .before .before .before .before .before .loop in
     let g = l .inv .0 in
-    record { fits = omega (arith, c .before .before .before .before .before .before .before .if1 .taken, l .inv .6) }
+    record { fits = omega (arith, c .before .before .before .before .before .before .before .before .if1 .taken, l .inv .5) }
 
 loop-less : tie.Need-loop-less Inv-loop μ-loop
 loop-less c =
     let b = c .before .before .before .before .before .before .before .before .before .before .before .before .before .before in
     let a = b .args in
-    let l = c .before .before .before .before .before .before .before .before .loop in
+    let l = c .before .before .before .before .before .before .before .before .before .loop in
     let g = l .inv .0 in
-    omega (arith, c .before .before .before .before .before .before .before .if1 .taken)
+    omega (arith, c .before .before .before .before .before .before .before .before .if1 .taken)
 
 loop-again : tie.Need-loop-again Inv-loop μ-loop
 loop-again c =
     let b = c .before .before .before .before .before .before .before .before .before .before .before .before .before .before in
     let a = b .args in
-    let l = c .before .before .before .before .before .before .before .before .loop in
+    let l = c .before .before .before .before .before .before .before .before .before .loop in
     let g = l .inv .0 in
     let m = c .before .before .before in
-    let ch = c .before .before .before .before .before .before .channel in
+    let ch = c .before .before .before .before .before .before .before .channel in
     let t = came m in (
-      turn-made (a .kinds .now) (a .addresses .now) (a .of .first) (a .n) (a .turns) (a .from) (a .to) (a .ram .now) (lentList (a .core) (a .of .version) (a .ram .now) (a .queues .now) (a .values .now)) (a .stems .now) (a .at) (length (a .values .now)) (l .core) (l .version) (l .queues) (l .values) (l .stems) (l .place) (l .i) (l .turn) (l .stop) g (c .before .before .before .before .before .before .before .if1 .taken) (ch .result) (ch .ensures .0) (m .match .core) (m .match .sides) t _ (m .match .queues) (c .before .put-sides .ensures) (kept m),
-      turn-heard (a .kinds .now) (a .addresses .now) (a .of .first) (a .n) (a .turns) (a .from) (a .to) (a .ram .now) (lentList (a .core) (a .of .version) (a .ram .now) (a .queues .now) (a .values .now)) (a .stems .now) (a .at) (length (a .values .now)) (l .core) (l .version) (l .queues) (l .values) (l .stems) (l .place) (l .i) (l .turn) (l .stop) g (c .before .before .before .before .before .before .before .if1 .taken) (ch .result) (ch .ensures .0) (m .match .core) (m .match .sides) t,
+      turn-made (a .kinds .now) (a .addresses .now) (a .of .first) (a .n) (a .turns) (a .from) (a .to) (a .ram .now) (lentList (a .core) (a .of .version) (a .ram .now) (a .queues .now) (a .values .now)) (a .stems .now) (a .at) (length (a .values .now)) (l .core) (l .version) (l .queues) (l .values) (l .stems) (l .place) (l .i) (l .turn) (l .stop) g (c .before .before .before .before .before .before .before .before .if1 .taken) (ch .result) (ch .ensures .0) (m .match .core) (m .match .sides) t _ (m .match .queues) (c .before .put-sides .ensures) (kept m),
+      l .inv .1,
       l .inv .2,
       l .inv .3,
       l .inv .4,
       l .inv .5,
       l .inv .6,
-      l .inv .7,
     )
 
 same-length : tie.Need-same-length Inv-loop μ-loop
-same-length c = let g = c .before .before .before .loop .inv .0 in g .long
+same-length c = let g = c .before .before .loop .inv .0 in g .long
 
 same-length-2 : tie.Need-same-length-2 Inv-loop μ-loop
 same-length-2 c =
-    let b = c .before .before .before .before .before .before .before .before .before in
+    let b = c .before .before .before .before .before .before .before in
     let a = b .args in
-    let l = c .before .before .before .loop in
+    let l = c .before .before .loop in
     let g = l .inv .0 in
     g .entries ∙ sym (b .pre .1 .0)
 
 same-length-3 : tie.Need-same-length-3 Inv-loop μ-loop
 same-length-3 c =
-    let b = c .before .before .before .before .before .before .before .before .before in
+    let b = c .before .before .before .before .before .before .before in
     let a = b .args in
-    let l = c .before .before .before .loop in
+    let l = c .before .before .loop in
     let g = l .inv .0 in
     ap length (g .filled) ∙ length-sets (a .stems .now) (a .at) (g .gave)
 
 returns : tie.Need-returns Inv-loop μ-loop
 returns c =
-    let b = c .before .before .before .before .before .before .before .before .before in
+    let b = c .before .before .before .before .before .before .before in
     let a = b .args in
-    let l = c .before .before .before .loop in
+    let l = c .before .before .loop in
     let g = l .inv .0 in
-    let stop = c .before .before .if1 .left in
-    let last = c .before .if3 .taken in
+    let stop = c .before .if1 .left in
+    let last = c .if3 .taken in
     let o = over (a .kinds .now) (a .addresses .now) (a .of .first) (a .n) (a .turns) (a .from) (a .to) (a .ram .now) (lentList (a .core) (a .of .version) (a .ram .now) (a .queues .now) (a .values .now)) (a .stems .now) (a .at) (length (a .values .now)) (l .core) (l .version) (l .queues) (l .values) (l .stems) (l .place) (l .i) (l .turn) (l .stop) g stop last in (
       ap (λ (s : Listed). s .core) o,
       (
@@ -326,10 +324,7 @@ returns c =
               g .filled ∙ ap (λ (s : Listed). sets (a .stems .now) (a .at) (s .stems)) o,
               (
                 placed (a .kinds .now) (a .addresses .now) (a .of .first) (a .n) (a .turns) (a .from) (a .to) (a .ram .now) (lentList (a .core) (a .of .version) (a .ram .now) (a .queues .now) (a .values .now)) (a .stems .now) (a .at) (length (a .values .now)) (l .core) (l .version) (l .queues) (l .values) (l .stems) (l .place) (l .i) (l .turn) (l .stop) g stop last,
-                (
-                  (λ h. back w16 (l .sides .sample) (record { sfits = c .struct-told .given .0 .1 }) ∙ last-heard (a .kinds .now) (a .addresses .now) (a .of .first) (a .n) (a .turns) (a .from) (a .to) (a .ram .now) (lentList (a .core) (a .of .version) (a .ram .now) (a .queues .now) (a .values .now)) (a .stems .now) (a .at) (length (a .values .now)) (l .core) (l .version) (l .queues) (l .values) (l .stems) (l .place) (l .i) (l .turn) (l .stop) g stop h (l .sides) (l .inv .1)),
-                  (g .ready .accepted, (each-before (a .kinds .now) (a .addresses .now) (a .of .first) (a .n) (a .turns) (a .from) (a .to) (a .ram .now) (lentList (a .core) (a .of .version) (a .ram .now) (a .queues .now) (a .values .now)) (a .stems .now) (a .at) (length (a .values .now)) (l .core) (l .version) (l .queues) (l .values) (l .stems) (l .place) (l .i) (l .turn) (l .stop) g stop last, (g .entries ∙ sym (b .pre .1 .0), g .long))),
-                ),
+                (g .ready .accepted, (each-before (a .kinds .now) (a .addresses .now) (a .of .first) (a .n) (a .turns) (a .from) (a .to) (a .ram .now) (lentList (a .core) (a .of .version) (a .ram .now) (a .queues .now) (a .values .now)) (a .stems .now) (a .at) (length (a .values .now)) (l .core) (l .version) (l .queues) (l .values) (l .stems) (l .place) (l .i) (l .turn) (l .stop) g stop last, (g .entries ∙ sym (b .pre .1 .0), g .long))),
               ),
             ),
           ),
@@ -397,8 +392,8 @@ part-write-at-end c = search needs
 write-at-requires : tie.Need-write-at-requires Inv-loop μ-loop
 write-at-requires c κs = search needs
 
-mul-d-2 : tie.Need-mul-d-2 Inv-loop μ-loop
-mul-d-2 c = search needs
+mul-d-3 : tie.Need-mul-d-3 Inv-loop μ-loop
+mul-d-3 c = search needs
 
 element-set-from-d : tie.Need-element-set-from-d Inv-loop μ-loop
 element-set-from-d c = search needs
@@ -433,8 +428,8 @@ look-empties-requires c κs = search needs
 after-read-requires : tie.Need-after-read-requires Inv-loop μ-loop
 after-read-requires c κs = search needs
 
-mul-t126 : tie.Need-mul-t126 Inv-loop μ-loop
-mul-t126 c = search needs
+mul-t128 : tie.Need-mul-t128 Inv-loop μ-loop
+mul-t128 c = search needs
 
 element-set-from-core-5 : tie.Need-element-set-from-core-5 Inv-loop μ-loop
 element-set-from-core-5 c = search needs
@@ -468,13 +463,13 @@ enum-told-10 c = search needs
 
 -- the call, whichever way it came
 abbrev Called : Type 0
-Called = lts.At-match2-came (silent-reads.Asked, silent-reads.Learnt, channel-reads.Asked, channel-reads.Learnt, kind-reads.Asked, kind-reads.Learnt, target-channel-reads.Asked, target-channel-reads.Learnt, target-reads.Asked, target-reads.Learnt, oscillator-reads.Asked, oscillator-reads.Learnt, after-sound-reads.Asked, after-sound-reads.Learnt, served-reads.Asked, served-reads.Learnt, after-served-reads.Asked, after-served-reads.Learnt, stream-reads.Asked, stream-reads.Learnt, after-stream-reads.Asked, after-stream-reads.Learnt, queue-reads.Asked, queue-reads.Learnt, after-queue-reads.Asked, after-queue-reads.Learnt, put-sides-reads.Asked, put-sides-reads.Learnt, asked-reads.Asked, asked-reads.Learnt, channel-of-reads.Asked, channel-of-reads.Learnt, offset-of-reads.Asked, offset-of-reads.Learnt, write-at-reads.Asked, write-at-reads.Learnt, empties-reads.Asked, empties-reads.Learnt, clear-fragments-reads.Asked, clear-fragments-reads.Learnt, seen-reads.Asked, seen-reads.Learnt, look-empties-reads.Asked, look-empties-reads.Learnt, after-read-reads.Asked, after-read-reads.Learnt, numbered-reads.Asked, numbered-reads.Learnt, set-version-reads.Asked, set-version-reads.Learnt) reads.Pre reads.Post Inv-loop μ-loop
+Called = lts.At-match2-came (channel-reads.Asked, channel-reads.Learnt, silent-reads.Asked, silent-reads.Learnt, kind-reads.Asked, kind-reads.Learnt, target-channel-reads.Asked, target-channel-reads.Learnt, target-reads.Asked, target-reads.Learnt, oscillator-reads.Asked, oscillator-reads.Learnt, after-sound-reads.Asked, after-sound-reads.Learnt, served-reads.Asked, served-reads.Learnt, after-served-reads.Asked, after-served-reads.Learnt, stream-reads.Asked, stream-reads.Learnt, after-stream-reads.Asked, after-stream-reads.Learnt, queue-reads.Asked, queue-reads.Learnt, after-queue-reads.Asked, after-queue-reads.Learnt, put-sides-reads.Asked, put-sides-reads.Learnt, asked-reads.Asked, asked-reads.Learnt, channel-of-reads.Asked, channel-of-reads.Learnt, offset-of-reads.Asked, offset-of-reads.Learnt, write-at-reads.Asked, write-at-reads.Learnt, empties-reads.Asked, empties-reads.Learnt, clear-fragments-reads.Asked, clear-fragments-reads.Learnt, seen-reads.Asked, seen-reads.Learnt, look-empties-reads.Asked, look-empties-reads.Learnt, after-read-reads.Asked, after-read-reads.Learnt, numbered-reads.Asked, numbered-reads.Learnt, set-version-reads.Asked, set-version-reads.Learnt) reads.Pre reads.Post Inv-loop μ-loop
 
 called : (c : Called)
-    → (let a = c .before .before .before .before .before .before .before .before .before .before .before .before .args in let l = c .before .before .before .before .before .before .loop in let g = l .inv .0 in
+    → (let a = c .before .before .before .before .before .before .before .before .before .before .before .args in let l = c .before .before .before .before .before .before .loop in let g = l .inv .0 in
     Begins (a .kinds .now) (a .addresses .now) (a .of .first) (a .n) (l .i) (standing (a .ram .now) (l .core) (l .version) (l .queues) (l .values) (g .gave)) (standing (a .ram .now) (c .match2 .core) (c .match2 .version) (c .match2 .queues) (c .match2 .values) (g .gave)) (c .match2 .stop))
 called c =
-    let b = c .before .before .before .before .before .before .before .before .before .before .before .before in
+    let b = c .before .before .before .before .before .before .before .before .before .before .before in
     let a = b .args in
     let l = c .before .before .before .before .before .before .loop in
     let g = l .inv .0 in
@@ -509,7 +504,7 @@ add-i c = search needs
 
 loop-less-2 : tie.Need-loop-less-2 Inv-loop μ-loop
 loop-less-2 c =
-    let b = c .before .before .before .before .before .before .before .before .before .before .before .before in
+    let b = c .before .before .before .before .before .before .before .before .before .before .before in
     let a = b .args in
     let l = c .before .before .before .before .before .before .loop in
     let g = l .inv .0 in
@@ -518,20 +513,19 @@ loop-less-2 c =
 
 loop-again-2 : tie.Need-loop-again-2 Inv-loop μ-loop
 loop-again-2 c =
-    let b = c .before .before .before .before .before .before .before .before .before .before .before .before in
+    let b = c .before .before .before .before .before .before .before .before .before .before .before in
     let a = b .args in
     let l = c .before .before .before .before .before .before .loop in
     let g = l .inv .0 in
     let e = called c in
     let m = clocked-most (a .kinds .now) (a .addresses .now) (a .from) (a .to) (l .i) (omega (arith, g .begun)) (omega (arith, c .before .before .before .before .if3 .left)) in (
       call-begun (a .kinds .now) (a .addresses .now) (a .of .first) (a .n) (a .turns) (a .from) (a .to) (a .ram .now) (lentList (a .core) (a .of .version) (a .ram .now) (a .queues .now) (a .values .now)) (a .stems .now) (a .at) (length (a .values .now)) (l .core) (l .version) (l .queues) (l .values) (l .stems) (l .place) (l .i) (l .turn) (l .stop) g (c .before .before .before .before .before .if1 .left) (omega (arith, c .before .before .before .before .if3 .left)) (standing (a .ram .now) (c .match2 .core) (c .match2 .version) (c .match2 .queues) (c .match2 .values) (g .gave)) (c .match2 .stop) (e .ram) (e .stems) (e .ready) (e .entries ∙ g .entries) (e .long ∙ g .long) (e .made) (e .count),
-      (λ h. absurd (omega (arith, h, g .begun))),
+      l .inv .1,
       l .inv .2,
       l .inv .3,
       l .inv .4,
-      l .inv .5,
       omega (arith, e .count, m, c .before .before .shared-slice-known5 .given (l .i) .fits),
-      l .inv .7,
+      l .inv .6,
     )
 
 pub play-calls-spec : {M : Type 1} → statement M
@@ -540,14 +534,13 @@ play-calls-spec =
     (tie.spec
     Inv-loop
     μ-loop
-    silent-requires
     loop-holds
     channel-requires
+    silent-requires
     mul-kind
     element-copy-out-kind
     kind-requires
     enum-told
-    silent-requires-2
     enum-told-2
     mul-c
     element-copy-out-c
@@ -563,21 +556,23 @@ play-calls-spec =
     mul-c-2
     element-copy-out-c-2
     served-requires
-    after-served-requires
-    mul-t68
-    element-set-from-core-2
     mul-d
     element-copy-out-d
+    after-served-requires
+    mul-t67
+    element-set-from-core-2
+    mul-d-2
+    element-copy-out-d-2
     stream-requires
     after-stream-requires
-    mul-t71
+    mul-t73
     element-set-from-core-3
     enum-told-4
     mul-c-3
     element-copy-out-c-3
     queue-requires
     after-queue-requires
-    mul-t78
+    mul-t80
     element-set-from-core-4
     put-sides-requires
     add-place
@@ -608,7 +603,7 @@ play-calls-spec =
     part-write-at-start
     part-write-at-end
     write-at-requires
-    mul-d-2
+    mul-d-3
     element-set-from-d
     empties-requires
     clear-fragments-requires
@@ -620,7 +615,7 @@ play-calls-spec =
     slice-write-values
     look-empties-requires
     after-read-requires
-    mul-t126
+    mul-t128
     element-set-from-core-5
     clear-fragments-requires-2
     enum-told-8

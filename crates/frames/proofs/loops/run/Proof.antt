@@ -5,12 +5,10 @@ use Prim.Native.Nat.{_/_}
 use native.Mathlib.Omega.{arith}
 use lib.ListN.{length}
 use lib.Seq.{sets}
-use mir.Syntax.{w16}
-use Rattle.num.proofs.Integers.{back}
 use Rattle.version.specs.declared.SguVersion.{SguVersion}
 use Rattle.voices.specs.Accepted.{AcceptedCore}
 use Rattle.voices.proofs.Accepting.{core-accepted}
-use Rattle.frames.specs.Turning.{Turns, afterTurns}
+use Rattle.frames.specs.Turning.{Turns}
 use Rattle.frames.specs.Listing.{listed}
 use Rattle.frames.proofs.Asks.{may, ran, refused}
 use Rattle.frames.proofs.Counts.{frames-none}
@@ -45,14 +43,14 @@ same-length-2 c = search needs
 returns : tie.Need-returns
 unfolding listed
 returns c =
-    let a = c .before .before .before .before .before .before .before .before .before .before .before .before .before .before .before .args in
-    let t = c .before .before .before .before .before .play-calls in
+    let a = c .before .before .before .before .before .before .before .before .before .before .before .before .before .before .args in
+    let t = c .before .before .before .before .play-calls in
     let k = t .ensures in
-    let e = ran (a .version) (a .ram .now) (a .queues .now) (a .ticks) (a .core) (a .first) (length (a .stems .now) / 2) (sym (c .before .before .before .before .before .before .before .before .before .before .before .before .may-run .ensures) ∙ c .before .before .before .before .before .before .before .before .before .before .before .if1 .taken) in (
-      (λ i. record { core = k .0 i; sample = (back w16 (t .result .sample) (record { sfits = c .struct-told .given .1 .1 .1 .0 .1 }) ∙ k .1 .1 .1 .1 .1 .1 .0 (omega arith)) i }) ∙ ap afterTurns e,
+    let e = ran (a .version) (a .ram .now) (a .queues .now) (a .ticks) (a .core) (a .first) (length (a .stems .now) / 2) (sym (c .before .before .before .before .before .before .before .before .before .before .before .may-run .ensures) ∙ c .before .before .before .before .before .before .before .before .before .before .if1 .taken) in (
+      k .0 ∙ ap (λ (t : Turns). t .core) e,
       (
         k .1 .1 .1 .1 .0 ∙ ap (λ (t : Turns). sets (a .stems .now) 0 (t .stems)) e,
-        ((λ h. core-accepted (t .result .core) (a .version) (length (a .ram .now)) (subst (λ (v : SguVersion). AcceptedCore (t .result .core) v (length (a .ram .now))) (k .1 .0) (k .1 .1 .1 .1 .1 .1 .1 .0))), k .1 .1 .0),
+        ((λ h. core-accepted (t .result .core) (a .version) (length (a .ram .now)) (subst (λ (v : SguVersion). AcceptedCore (t .result .core) v (length (a .ram .now))) (k .1 .0) (k .1 .1 .1 .1 .1 .1 .0))), k .1 .1 .0),
       ),
     )
 
@@ -63,7 +61,7 @@ returns-2 : tie.Need-returns-2
 returns-2 c =
     let a = c .before .before .before .before .args in
     let e = refused (a .version) (a .ram .now) (a .queues .now) (a .ticks) (a .core) (a .first) (length (a .stems .now) / 2) (sym (c .before .may-run .ensures) ∙ c .if1 .left) in
-    (ap afterTurns e, (ap (λ (t : Turns). sets (a .stems .now) 0 (t .stems)) e, ((λ h. h), refl)))
+    (ap (λ (t : Turns). t .core) e, (ap (λ (t : Turns). sets (a .stems .now) 0 (t .stems)) e, ((λ h. h), refl)))
 
 pub run-spec : {M : Type 1} → statement M
 run-spec =

@@ -1,10 +1,9 @@
 use borrow.Author.Needs.{needs}
-use mathlib.Core.Path.{refl, sym, ap, ap₂, _∙_}
+use mathlib.Core.Path.{refl, sym, ap₂, _∙_}
 use Prim.Native.Nat.{ℕ, _*_}
 use lib.ListN.{length}
 use borrow.Author.Tests.{not-true, not-false, eqb-true}
 use Rattle.voices.specs.declared.Core.{Core}
-use Rattle.frames.specs.declared.Turned.{Turned}
 use Rattle.s3w2.specs.declared.Answer.the-variants.{Ended}
 use Rattle.s3w2.specs.Answers.{answered}
 use Rattle.s3w2.specs.Chips.{withCore}
@@ -50,15 +49,15 @@ same-length-2 c = search needs
 returns-2 : tie.Need-returns-2
 unfolding clockCalled clockStems
 returns-2 c =
-    let a = c .before .before .before .before .before .before .before .before .before .before .before .before .before .before .before .before .args in
-    let refusal = c .before .before .before .before .before .before .before .before .before .before .before .before .before .before .refusal-of-clock in
-    let done = sym (c .before .before .before .before .before .before .before .before .before .before .before .before .before .is-done .ensures) ∙ not-false _ (c .before .before .before .before .before .before .before .before .before .before .before .before .if1 .left) in
-    let run = c .before .before .before .before .before .before .run in
+    let a = c .before .before .before .before .before .before .before .before .before .before .before .before .before .before .before .args in
+    let refusal = c .before .before .before .before .before .before .before .before .before .before .before .before .before .refusal-of-clock in
+    let done = sym (c .before .before .before .before .before .before .before .before .before .before .before .before .is-done .ensures) ∙ not-false _ (c .before .before .before .before .before .before .before .before .before .before .before .if1 .left) in
+    let run = c .before .before .before .before .before .run in
     let t = all-there _ _ _ _ (refusal .result) (refusal .ensures) done in
     let e = eqb-true (length (a .stems .now)) (16 * a .frames) (t .enough) in
-    let next = ap (λ (x : Turned). x .core) (run .ensures .0) ∙ ran-core (a .self .version) (a .ram .now) (a .queues .now) (a .self .core) (t .lent) (t .accepted) (a .frames) (a .stems .now) e in
+    let next = run .ensures .0 ∙ ran-core (a .self .version) (a .ram .now) (a .queues .now) (a .self .core) (t .lent) (t .accepted) (a .frames) (a .stems .now) e in
     let stems = ran-stems (a .self .version) (a .ram .now) (a .queues .now) (a .self .core) (t .lent) (t .accepted) (a .frames) (a .stems .now) e in
-    let set = c .before .ended .ensures ∙ frames-ended (a .self .version) (a .ram .now) (a .queues .now) _ (a .self .core) _ (a .frames) (c .before .before .before .before .before .before .before .before .before .actives .ensures) next in (
+    let set = c .before .ended .ensures ∙ frames-ended (a .self .version) (a .ram .now) (a .queues .now) _ (a .self .core) _ (a .frames) (c .before .before .before .before .before .before .before .before .actives .ensures) next in (
       goes-called (refusal .result) _ (refusal .ensures) _ _ _ done (c .with-core .ensures ∙ ap₂ (λ (x : Core) (s : ℕ). answered (withCore (a .self) x) (Ended s)) next set),
       (run .ensures .1 .1 .1, run .ensures .1 .0 ∙ stems ∙ goes-on (refusal .result) _ (refusal .ensures) _ _ done),
     )
