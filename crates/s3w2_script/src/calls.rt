@@ -3,6 +3,7 @@ use crate::Player;
 use crate::fields;
 use crate::setting;
 use crate::showing;
+use crate::sounding;
 use s3w2::Answer;
 use s3w2::Called;
 use s3w2::Chip;
@@ -10,22 +11,24 @@ use sizes::QUEUE_BUFFER;
 use version::Parsed;
 use version::SguVersion;
 
-// The calls that change nothing and take numbers only; no other letter is a call.
-fn asked(chip: Chip, line: &[u64]) -> Answer {
+// The calls that change nothing; no other letter is a call.
+fn asked(chip: Chip, line: &[u64], ram: &[u8]) -> Answer {
     let ch = fields::size(line, 1);
+    let a = fields::word(line, 1);
     let x = fields::byte(line, 2);
     match fields::letter(line) {
-        b'P' => chip.peek_register(fields::word(line, 1)),
+        b'P' => chip.peek_register(a),
         b't' => chip.read_channel_wavetable(ch, x),
         b'q' => chip.read_channel_pcm_reg(ch, x),
         b'w' => chip.wavetable_length(ch),
         b'i' => chip.interpolates(ch),
+        b'm' => chip.read_pcm_ram(ram, a),
         _ => Answer::Done,
     }
 }
 
-// The calls that take numbers only.
-fn called(chip: Chip, line: &[u64]) -> Called {
+// The calls that write to no buffer.
+fn called(chip: Chip, line: &[u64], ram: &[u8]) -> Called {
     let ch = fields::size(line, 1);
     let x = fields::byte(line, 2);
     let y = fields::byte(line, 3);
@@ -38,7 +41,7 @@ fn called(chip: Chip, line: &[u64]) -> Called {
         b'Q' => chip.write_channel_pcm_reg(ch, x, y),
         b'F' => setting::with_cache(chip, line),
         _ => {
-            let answer = asked(chip, line);
+            let answer = asked(chip, line, ram);
             Called { chip, answer }
         }
     }
@@ -58,32 +61,26 @@ fn write_bytes(first: Chip, line: &[u64], ram: &mut [u8]) -> Called {
     Called { chip, answer }
 }
 
-// The calls that are lent the RAM, and those that take numbers only.
+// The calls that write to the RAM.
 fn called_with_ram(chip: Chip, line: &[u64], ram: &mut [u8]) -> Called {
-    let a = fields::word(line, 1);
     match fields::letter(line) {
         b'N' => Chip::with_version(ram, fields::version(line)),
         b'Z' => chip.reset(ram),
-        b'M' => chip.write_pcm_ram(ram, a, fields::byte(line, 2)),
-        b'B' => write_bytes(chip, line, ram),
-        b'm' => {
-            let answer = chip.read_pcm_ram(&*ram, a);
-            Called { chip, answer }
-        }
-        _ => called(chip, line),
+        b'M' => chip.write_pcm_ram(ram, fields::word(line, 1), fields::byte(line, 2)),
+        _ => write_bytes(chip, line, ram),
     }
 }
 
-// The calls that are lent the queues, and the others.
-fn called_with(chip: Chip, line: &[u64], ram: &mut [u8], queues: &mut [i16]) -> Called {
+// The calls that write to the queues, and those that write to no buffer.
+fn called_with_queues(chip: Chip, line: &[u64], ram: &[u8], queues: &mut [i16]) -> Called {
     let ch = fields::size(line, 1);
     let x = fields::byte(line, 2);
     match fields::letter(line) {
         b'W' => chip.write_register(queues, fields::word(line, 1), x),
         b'C' => chip.write_channel_control(queues, ch, x, fields::byte(line, 3)),
-        b'G' => chip.generate_sample(&*ram, queues, ch),
+        b'G' => chip.generate_sample(ram, queues, ch),
         b'E' => setting::with_voice(chip, line, queues),
-        _ => called_with_ram(chip, line, ram),
+        _ => called(chip, line, ram),
     }
 }
 
@@ -114,12 +111,13 @@ fn sum_of(ram: &[u8]) -> u32 {
     sum
 }
 
-fn absolute(line: &[u64]) -> usize {
-    tone::convert_to_absolute_channel_address(
+fn absolute(line: &[u64]) -> u8 {
+    let ch = tone::convert_to_absolute_channel_address(
         fields::byte(line, 1),
         fields::byte(line, 2),
         fields::byte(line, 3),
-    )
+    );
+    ch as u8
 }
 
 fn saturated(line: &[u64]) -> i64 {
@@ -128,19 +126,19 @@ fn saturated(line: &[u64]) -> i64 {
     fields::long_sample(tone::saturate_output(x))
 }
 
-// The lines that tell of no chip: a number each, of a version two.
-fn put_told(line: &[u64], ram: &[u8], out: &mut [u8], at: usize) -> usize {
+// A number that a line tells of no chip.
+fn number_told(line: &[u64], ram: &[u8]) -> i64 {
     match fields::letter(line) {
-        b'A' => fields::put(out, at, absolute(line) as u64),
-        b'O' => fields::put_number(out, at, saturated(line)),
-        b'U' => fields::put(out, at, named(line) as u64),
-        b'u' => {
-            let version = fields::version(line);
-            let end = fields::put(&mut *out, at, version.core_count() as u64);
-            fields::put(out, end, fields::flag_number(version.has_34si22()))
-        }
-        _ => fields::put(out, at, sum_of(ram) as u64),
+        b'A' => absolute(line) as i64,
+        b'O' => saturated(line),
+        b'U' => named(line) as i64,
+        _ => sum_of(ram) as i64,
     }
+}
+
+fn put_features(out: &mut [u8], at: usize, version: SguVersion) -> usize {
+    let end = fields::put(&mut *out, at, version.core_count() as u64);
+    fields::put(out, end, fields::flag_number(version.has_34si22()))
 }
 
 impl Player {
@@ -160,17 +158,20 @@ impl Player {
         self
     }
 
-    // A line over RAM and queues as long as they are to be.
-    fn play(self, line: &[u64], ram: &mut [u8], queues: &mut [i16], out: &mut [u8]) -> Player {
+    // A line that does not write to the RAM, over RAM and queues as long as they are to be.
+    fn play(self, line: &[u64], ram: &[u8], queues: &mut [i16], out: &mut [u8]) -> Player {
         let chip = self.chip;
         let at = self.end;
         match fields::letter(line) {
-            b'A' | b'O' | b'U' | b'u' | b'K' => self.ended(put_told(line, &*ram, out, at)),
+            b'A' | b'O' | b'U' | b'K' => {
+                self.ended(fields::put_number(out, at, number_told(line, ram)))
+            }
+            b'u' => self.ended(put_features(out, at, fields::version(line))),
             b'D' => self.ended(showing::put_voice(chip, line, &*queues, out, at)),
-            b'S' => self.stems(line, &*ram, queues, out),
-            b'X' | b'Y' => self.sides(line, &*ram, queues, out),
-            b'y' => self.wide_sides(line, &*ram, queues, out),
-            _ => self.after(called_with(chip, line, ram, queues), out),
+            b'S' => self.sounded(sounding::stems(chip, line, ram, queues), out),
+            b'X' | b'Y' => self.sounded(sounding::sides(chip, line, ram, queues), out),
+            b'y' => self.sounded_wide(sounding::wide_sides(chip, line, ram, queues), out),
+            _ => self.after(called_with_queues(chip, line, ram, queues), out),
         }
     }
 
@@ -185,6 +186,12 @@ impl Player {
         let player = self.lent(line);
         let n = num::least(player.ram, ram.len());
         let q = num::least(player.queues, queues.len());
-        player.play(line, &mut ram[..n], &mut queues[..q], out)
+        match fields::letter(line) {
+            b'N' | b'Z' | b'M' | b'B' => {
+                let chip = player.chip;
+                player.after(called_with_ram(chip, line, &mut ram[..n]), out)
+            }
+            _ => player.play(line, num::part(&*ram, 0, n), &mut queues[..q], out),
+        }
     }
 }

@@ -128,9 +128,9 @@ pub(crate) fn put_samples(
     end
 }
 
-pub(crate) fn put_wide_samples(out: &mut [u8], at: usize, samples: &[i32]) -> usize {
+pub(crate) fn put_wide_samples(out: &mut [u8], at: usize, samples: &[i32], to: usize) -> usize {
     let mut end = at;
-    for i in 0..samples.len() {
+    for i in 0..num::least(to, samples.len()) {
         end = put_number(&mut *out, end, long_wide(samples[i]));
     }
     end
@@ -156,10 +156,10 @@ pub(crate) fn fill(samples: &mut [i16], from: usize, to: usize, seed: u64, loud:
     x
 }
 
-// The same of 32 bits, of which each takes two steps of the seed.
-pub(crate) fn fill_wide(samples: &mut [i32], seed: u64) -> u64 {
+// The same of 32 bits, from the beginning on; each takes two steps of the seed.
+pub(crate) fn fill_wide(samples: &mut [i32], to: usize, seed: u64) -> u64 {
     let mut x = seed;
-    for i in 0..samples.len() {
+    for i in 0..num::least(to, samples.len()) {
         let y = next_seed(x);
         x = next_seed(y);
         samples[i] = wide(bits_of(y), bits_of(x));

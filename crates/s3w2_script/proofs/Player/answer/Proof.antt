@@ -13,20 +13,32 @@ least-requires c κs = search needs
 least-requires-2 : tie.Need-least-requires-2
 least-requires-2 c κs = search needs
 
+letter-requires : tie.Need-letter-requires
+letter-requires c κs = search needs
+
+part-requires : tie.Need-part-requires
+part-requires c κs = search needs
+
 slice-relend-prefix-play : tie.Need-slice-relend-prefix-play
 slice-relend-prefix-play c = search needs
 
 slice-aggregate-play : tie.Need-slice-aggregate-play
 slice-aggregate-play c = sym (length-take-le _ _ (search needs))
 
-slice-relend-prefix-play-2 : tie.Need-slice-relend-prefix-play-2
-slice-relend-prefix-play-2 c = search needs
-
-slice-aggregate-play-2 : tie.Need-slice-aggregate-play-2
-slice-aggregate-play-2 c = sym (length-take-le _ _ (search needs))
-
 play-requires : tie.Need-play-requires
 play-requires c κs = search needs
+
+slice-relend-prefix-called-with-ram : tie.Need-slice-relend-prefix-called-with-ram
+slice-relend-prefix-called-with-ram c = search needs
+
+slice-aggregate-called-with-ram : tie.Need-slice-aggregate-called-with-ram
+slice-aggregate-called-with-ram c = sym (length-take-le _ _ (search needs))
+
+called-with-ram-requires : tie.Need-called-with-ram-requires
+called-with-ram-requires c κs = search needs
+
+after-requires : tie.Need-after-requires
+after-requires c κs = search needs
 
 same-length : tie.Need-same-length
 same-length c = search needs
@@ -40,6 +52,15 @@ same-length-3 c = search needs
 returns : tie.Need-returns
 returns c = search needs
 
+same-length-4 : tie.Need-same-length-4
+same-length-4 c = search needs
+
+same-length-5 : tie.Need-same-length-5
+same-length-5 c = search needs
+
+returns-2 : tie.Need-returns-2
+returns-2 c = search needs
+
 pub answer-spec : {M : Type 1} → statement M
 answer-spec =
     tie.close
@@ -47,12 +68,19 @@ answer-spec =
     lent-requires
     least-requires
     least-requires-2
+    letter-requires
+    part-requires
     slice-relend-prefix-play
     slice-aggregate-play
-    slice-relend-prefix-play-2
-    slice-aggregate-play-2
     play-requires
+    slice-relend-prefix-called-with-ram
+    slice-aggregate-called-with-ram
+    called-with-ram-requires
+    after-requires
     same-length
     same-length-2
     same-length-3
-    returns)
+    returns
+    same-length-4
+    same-length-5
+    returns-2)

@@ -1,15 +1,18 @@
 use mathlib.Core.Path.{_≡_}
-use Prim.Native.Nat.{_-_}
+use Prim.Native.Nat.{_≤_, _-_}
 use lib.ListN.{length}
 use borrow.Author.Needs.{needs}
 use Rattle.s3w2_script.proofs.fields.fill_wide.Statement.{statement}
 use Rattle.s3w2_script.proofs.fields.fill_wide.Tie as tie
 
 abbrev Inv-loop : tie.InvT-loop
-Inv-loop samples₀ seed x₀ i₀ i-end samples x i = (i-end ≡ length samples₀) × (length samples ≡ length samples₀)
+Inv-loop samples₀ to seed x₀ i₀ i-end samples x i = (i-end ≤ length samples₀) × (length samples ≡ length samples₀)
 
 abbrev μ-loop : tie.MeasureT-loop
-μ-loop samples₀ seed x₀ i₀ i-end samples x i = i-end - i
+μ-loop samples₀ to seed x₀ i₀ i-end samples x i = i-end - i
+
+least-requires : tie.Need-least-requires Inv-loop μ-loop
+least-requires c κs = search needs
 
 loop-holds : tie.Need-loop-holds Inv-loop μ-loop
 loop-holds c = search needs
@@ -29,8 +32,8 @@ bits-of-requires-2 c κs = search needs
 wide-requires : tie.Need-wide-requires Inv-loop μ-loop
 wide-requires c κs = search needs
 
-mul-t11 : tie.Need-mul-t11 Inv-loop μ-loop
-mul-t11 c = search needs
+mul-t13 : tie.Need-mul-t13 Inv-loop μ-loop
+mul-t13 c = search needs
 
 slice-set-from-samples : tie.Need-slice-set-from-samples Inv-loop μ-loop
 slice-set-from-samples c = search needs
@@ -56,13 +59,14 @@ fill-wide-spec =
     (tie.spec
     Inv-loop
     μ-loop
+    least-requires
     loop-holds
     next-seed-requires
     next-seed-requires-2
     bits-of-requires
     bits-of-requires-2
     wide-requires
-    mul-t11
+    mul-t13
     slice-set-from-samples
     add-i
     loop-less

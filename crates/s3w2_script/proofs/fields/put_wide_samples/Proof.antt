@@ -6,10 +6,13 @@ use Rattle.s3w2_script.proofs.fields.put_wide_samples.Statement.{statem
 use Rattle.s3w2_script.proofs.fields.put_wide_samples.Tie as tie
 
 abbrev Inv-loop : tie.InvT-loop
-Inv-loop out₀ at samples end₀ i₀ i-end out end i = (i-end ≤ length samples) × (length out ≡ length out₀)
+Inv-loop out₀ at samples to end₀ i₀ i-end out end i = (i-end ≤ length samples) × (length out ≡ length out₀)
 
 abbrev μ-loop : tie.MeasureT-loop
-μ-loop out₀ at samples end₀ i₀ i-end out end i = i-end - i
+μ-loop out₀ at samples to end₀ i₀ i-end out end i = i-end - i
+
+least-requires : tie.Need-least-requires Inv-loop μ-loop
+least-requires c κs = search needs
 
 loop-holds : tie.Need-loop-holds Inv-loop μ-loop
 loop-holds c = search needs
@@ -47,6 +50,7 @@ put-wide-samples-spec =
     (tie.spec
     Inv-loop
     μ-loop
+    least-requires
     loop-holds
     mul-long-wide
     shared-slice-copy-out-long-wide

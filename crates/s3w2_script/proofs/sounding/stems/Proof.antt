@@ -1,8 +1,8 @@
 use mathlib.Core.Path.{sym}
 use lib.Seq.{length-take-le}
 use borrow.Author.Needs.{needs}
-use Rattle.s3w2_script.proofs.Player.stems.Statement.{statement}
-use Rattle.s3w2_script.proofs.Player.stems.Tie as tie
+use Rattle.s3w2_script.proofs.sounding.stems.Statement.{statement}
+use Rattle.s3w2_script.proofs.sounding.stems.Tie as tie
 
 size-requires : tie.Need-size-requires
 size-requires c κs = search needs
@@ -13,8 +13,8 @@ least-requires c κs = search needs
 size-requires-2 : tie.Need-size-requires-2
 size-requires-2 c κs = search needs
 
-array-borrow-prefix-stems : tie.Need-array-borrow-prefix-stems
-array-borrow-prefix-stems c = search needs
+array-borrow-prefix-left : tie.Need-array-borrow-prefix-left
+array-borrow-prefix-left c = search needs
 
 slice-aggregate-clock : tie.Need-slice-aggregate-clock
 slice-aggregate-clock c = sym (length-take-le _ _ (search needs))
@@ -24,9 +24,6 @@ clock-requires c κs = search needs
 
 same-length : tie.Need-same-length
 same-length c = search needs
-
-same-length-2 : tie.Need-same-length-2
-same-length-2 c = search needs
 
 returns : tie.Need-returns
 returns c = search needs
@@ -38,9 +35,8 @@ stems-spec =
     size-requires
     least-requires
     size-requires-2
-    array-borrow-prefix-stems
+    array-borrow-prefix-left
     slice-aggregate-clock
     clock-requires
     same-length
-    same-length-2
     returns)
