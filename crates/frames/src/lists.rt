@@ -10,7 +10,6 @@ ghost use Rattle.voices.specs.Accepted.{acceptsCore};
 ghost use Rattle.frames.specs.Listing.{lentList, listed, framesAsked, EachAccepted, AllStore, callCount, writePcmRamKind, mayPlay, playedOf};
 ghost use Rattle.frames.specs.Stored.{callsStored};
 use crate::Played;
-use crate::Round;
 use crate::WRITE_PCM_RAM;
 use crate::asking::call_count;
 use crate::asking::fills;
@@ -100,10 +99,10 @@ fn play_runs(
             core = core.after_ram_writes(ram.len(), &addresses[i..end]);
         }
         let to = run_end(kinds, end, count, false);
-        let of = Round { version, first: 0 };
         let p = play_calls(
             core,
-            of,
+            version,
+            0,
             4,
             0,
             kinds,

@@ -37,7 +37,8 @@ fn put_sides(stems: &mut [i16], at: usize, sides: Sides)
 // nothing is stored.
 pub(crate) fn play_calls(
     core: Core,
-    of: Round,
+    version: SguVersion,
+    first: usize,
     n: usize,
     turns: usize,
     kinds: &[u8],
@@ -50,36 +51,35 @@ pub(crate) fn play_calls(
     stems: &mut [i16],
     at: usize,
 ) -> Going
-    requires { ⌜ (1 ≤ n) × (n ≤ 4) ⌝ ∗ ⌜ length (now queues) ≡ queueBuffer ⌝ ∗ ⌜ acceptsCore core (of .version) (length (now ram)) ≡ true ⌝
+    requires { ⌜ (1 ≤ n) × (n ≤ 4) ⌝ ∗ ⌜ length (now queues) ≡ queueBuffer ⌝ ∗ ⌜ acceptsCore core version (length (now ram)) ≡ true ⌝
         ∗ ⌜ (to ≤ length (now kinds)) × (to ≤ length (now addresses)) × (to ≤ length (now values))
         × (at + (2 * turns + stemsPerFrame * framesAsked (now kinds) (now addresses) from (to - from)) ≤ length (now stems)) ⌝
         ∗ ⌜ AllStore (now kinds) (now addresses) false from to ⌝ }
     ensures core { λ r. ⌜ r .core
-        ≡ listed (now (kinds .entry)) (now (addresses .entry)) (of .first) n from (to - from)
-        (clockTurns (of .first) n turns (lentList core (of .version) (now (ram .entry)) (now (queues .entry)) (now (values .entry)))) .core ⌝ }
+        ≡ listed (now (kinds .entry)) (now (addresses .entry)) first n from (to - from)
+        (clockTurns first n turns (lentList core version (now (ram .entry)) (now (queues .entry)) (now (values .entry)))) .core ⌝ }
     ensures version { λ r. ⌜ r .version
-        ≡ listed (now (kinds .entry)) (now (addresses .entry)) (of .first) n from (to - from)
-        (clockTurns (of .first) n turns (lentList core (of .version) (now (ram .entry)) (now (queues .entry)) (now (values .entry)))) .version ⌝ }
+        ≡ listed (now (kinds .entry)) (now (addresses .entry)) first n from (to - from)
+        (clockTurns first n turns (lentList core version (now (ram .entry)) (now (queues .entry)) (now (values .entry)))) .version ⌝ }
     ensures queues { λ _. ⌜ now (queues .exit)
-        ≡ listed (now (kinds .entry)) (now (addresses .entry)) (of .first) n from (to - from)
-        (clockTurns (of .first) n turns (lentList core (of .version) (now (ram .entry)) (now (queues .entry)) (now (values .entry)))) .queues ⌝ }
+        ≡ listed (now (kinds .entry)) (now (addresses .entry)) first n from (to - from)
+        (clockTurns first n turns (lentList core version (now (ram .entry)) (now (queues .entry)) (now (values .entry)))) .queues ⌝ }
     ensures values { λ _. ⌜ now (values .exit)
-        ≡ listed (now (kinds .entry)) (now (addresses .entry)) (of .first) n from (to - from)
-        (clockTurns (of .first) n turns (lentList core (of .version) (now (ram .entry)) (now (queues .entry)) (now (values .entry)))) .values ⌝ }
+        ≡ listed (now (kinds .entry)) (now (addresses .entry)) first n from (to - from)
+        (clockTurns first n turns (lentList core version (now (ram .entry)) (now (queues .entry)) (now (values .entry)))) .values ⌝ }
     ensures stems { λ _. ⌜ now (stems .exit)
         ≡ sets (now (stems .entry)) at
-        (listed (now (kinds .entry)) (now (addresses .entry)) (of .first) n from (to - from)
-        (clockTurns (of .first) n turns (lentList core (of .version) (now (ram .entry)) (now (queues .entry)) (now (values .entry)))) .stems) ⌝ }
+        (listed (now (kinds .entry)) (now (addresses .entry)) first n from (to - from)
+        (clockTurns first n turns (lentList core version (now (ram .entry)) (now (queues .entry)) (now (values .entry)))) .stems) ⌝ }
     ensures at { λ r. ⌜ r .at
         ≡ at + (2 * turns + stemsPerFrame * framesAsked (now (kinds .entry)) (now (addresses .entry)) from (to - from)) ⌝ }
     ensures { λ r. ⌜ AcceptedCore (r .core) (r .version) (length (now (ram .entry))) ⌝ }
-    ensures { λ _. ⌜ EachAccepted (now (kinds .entry)) (now (addresses .entry)) (of .first) n from (to - from)
-        (clockTurns (of .first) n turns (lentList core (of .version) (now (ram .entry)) (now (queues .entry)) (now (values .entry)))) ⌝ }
+    ensures { λ _. ⌜ EachAccepted (now (kinds .entry)) (now (addresses .entry)) first n from (to - from)
+        (clockTurns first n turns (lentList core version (now (ram .entry)) (now (queues .entry)) (now (values .entry)))) ⌝ }
     ensures { λ _. ⌜ (length (now (queues .exit)) ≡ length (now (queues .entry))) × (length (now (values .exit)) ≡ length (now (values .entry))) ⌝ }
 {
-    let first = of.first;
     let mut core = core;
-    let mut version = of.version;
+    let mut version = version;
     let mut place = at;
     let mut i = from;
     let mut turn: usize = 0;
@@ -222,14 +222,14 @@ pub fn run(
     ensures queues { λ _. ⌜ now (queues .exit) ≡ now (queues .entry) ⌝ }
 {
     if may_run(core, version, ram, &*queues, ticks) {
-        let of = Round { version, first };
         let kinds = [0u8];
         let addresses = [0u32];
         let mut values = [0u8];
         let turns = stems.len() / 2;
         let p = play_calls(
             core,
-            of,
+            version,
+            first,
             ticks,
             turns,
             &kinds,

@@ -48,12 +48,12 @@ use Rattle.voices.proofs.seen.Reads as seen-reads
 use Rattle.voices.proofs.clear_fragments.Reads as clear-fragments-reads
 
 abbrev Inv-loop : tie.InvT-loop
-Inv-loop n turns kinds addresses values₀ from to ram queues₀ stems₀ at first core₀ version₀ place₀ i₀ turn₀ stop₀ values queues stems core version place i turn stop =
+Inv-loop first n turns kinds addresses values₀ from to ram queues₀ stems₀ at core₀ version₀ place₀ i₀ turn₀ stop₀ values queues stems core version place i turn stop =
     Going kinds addresses first n turns from to ram (lentList core₀ version₀ ram queues₀ values₀) stems₀ at (length values₀) core version queues values stems place i turn stop
     × (to ≤ length kinds) × (to ≤ length addresses) × (to ≤ length values₀) × (at + (2 * turns + stemsPerFrame * framesAsked kinds addresses from (to - from)) ≤ length stems₀) × (stop < 2 ^ 64) × (length stems₀ < 2 ^ 64)
 
 abbrev μ-loop : tie.MeasureT-loop
-μ-loop n turns kinds addresses values₀ from to ram queues₀ stems₀ at first core₀ version₀ place₀ i₀ turn₀ stop₀ values queues stems core version place i turn stop = stop - turn + (8 * (framesAsked kinds addresses from (to - from) - framesAsked kinds addresses from (i - from)) + (to - i))
+μ-loop first n turns kinds addresses values₀ from to ram queues₀ stems₀ at core₀ version₀ place₀ i₀ turn₀ stop₀ values queues stems core version place i turn stop = stop - turn + (8 * (framesAsked kinds addresses from (to - from) - framesAsked kinds addresses from (i - from)) + (to - i))
 
 stems-fit : (b : lts.Start (channel-reads.Asked, channel-reads.Learnt, silent-reads.Asked, silent-reads.Learnt, kind-reads.Asked, kind-reads.Learnt, target-channel-reads.Asked, target-channel-reads.Learnt, target-reads.Asked, target-reads.Learnt, oscillator-reads.Asked, oscillator-reads.Learnt, after-sound-reads.Asked, after-sound-reads.Learnt, served-reads.Asked, served-reads.Learnt, after-served-reads.Asked, after-served-reads.Learnt, stream-reads.Asked, stream-reads.Learnt, after-stream-reads.Asked, after-stream-reads.Learnt, queue-reads.Asked, queue-reads.Learnt, after-queue-reads.Asked, after-queue-reads.Learnt, put-sides-reads.Asked, put-sides-reads.Learnt, asked-reads.Asked, asked-reads.Learnt, channel-of-reads.Asked, channel-of-reads.Learnt, offset-of-reads.Asked, offset-of-reads.Learnt, write-at-reads.Asked, write-at-reads.Learnt, empties-reads.Asked, empties-reads.Learnt, clear-fragments-reads.Asked, clear-fragments-reads.Learnt, seen-reads.Asked, seen-reads.Learnt, look-empties-reads.Asked, look-empties-reads.Learnt, after-read-reads.Asked, after-read-reads.Learnt, numbered-reads.Asked, numbered-reads.Learnt, set-version-reads.Asked, set-version-reads.Learnt) reads.Pre reads.Post Inv-loop μ-loop) → length (b .args .stems .now) < 2 ^ 64
 stems-fit b = search needs
@@ -62,8 +62,8 @@ loop-holds : tie.Need-loop-holds Inv-loop μ-loop
 loop-holds c =
     let b = c .before .before .before .before in
     let a = b .args in (
-      begin (a .kinds .now) (a .addresses .now) (a .of .first) (a .n) (a .turns) (a .from) (a .to) (a .ram .now) (lentList (a .core) (a .of .version) (a .ram .now) (a .queues .now) (a .values .now)) (a .stems .now) (a .at) (length (a .values .now)) refl refl
-          (record { accepted = accepted-core (a .core) (a .of .version) (length (a .ram .now)) (sized (a .core) (b .good .0 .1 .1)) (b .pre .1 .1 .0); bytes = bytes (a .core) (b .good .0 .1 .1) }) (b .pre .1 .0) refl,
+      begin (a .kinds .now) (a .addresses .now) (a .first) (a .n) (a .turns) (a .from) (a .to) (a .ram .now) (lentList (a .core) (a .version) (a .ram .now) (a .queues .now) (a .values .now)) (a .stems .now) (a .at) (length (a .values .now)) refl refl
+          (record { accepted = accepted-core (a .core) (a .version) (length (a .ram .now)) (sized (a .core) (b .good .0 .1 .1)) (b .pre .1 .1 .0); bytes = bytes (a .core) (b .good .0 .1 .1) }) (b .pre .1 .0) refl,
       b .pre .1 .1 .1 .0 .0,
       b .pre .1 .1 .1 .0 .1,
       b .pre .1 .1 .1 .0 .2,
@@ -241,7 +241,7 @@ roomy c =
     let a = b .args in
     let l = c .before .before .before .before .before .before .loop in
     let g = l .inv .0 in
-    has-room (a .kinds .now) (a .addresses .now) (a .of .first) (a .n) (a .turns) (a .from) (a .to) (a .ram .now) (lentList (a .core) (a .of .version) (a .ram .now) (a .queues .now) (a .values .now)) (a .stems .now) (a .at) (length (a .values .now)) (l .core) (l .version) (l .queues) (l .values) (l .stems) (l .place) (l .i) (l .turn) (l .stop) g (c .before .before .before .before .before .if1 .taken) (l .inv .4)
+    has-room (a .kinds .now) (a .addresses .now) (a .first) (a .n) (a .turns) (a .from) (a .to) (a .ram .now) (lentList (a .core) (a .version) (a .ram .now) (a .queues .now) (a .values .now)) (a .stems .now) (a .at) (length (a .values .now)) (l .core) (l .version) (l .queues) (l .values) (l .stems) (l .place) (l .i) (l .turn) (l .stop) g (c .before .before .before .before .before .if1 .taken) (l .inv .4)
 
 put-sides-requires : tie.Need-put-sides-requires Inv-loop μ-loop
 put-sides-requires c κs = (let h = roomy (c .before) in omega (arith, h), stem-fits _ (came (c .before) .room))
@@ -276,7 +276,7 @@ loop-again c =
     let m = c .before .before .before in
     let ch = c .before .before .before .before .before .before .before .channel in
     let t = came m in (
-      turn-made (a .kinds .now) (a .addresses .now) (a .of .first) (a .n) (a .turns) (a .from) (a .to) (a .ram .now) (lentList (a .core) (a .of .version) (a .ram .now) (a .queues .now) (a .values .now)) (a .stems .now) (a .at) (length (a .values .now)) (l .core) (l .version) (l .queues) (l .values) (l .stems) (l .place) (l .i) (l .turn) (l .stop) g (c .before .before .before .before .before .before .before .before .if1 .taken) (ch .result) (ch .ensures .0) (m .match .core) (m .match .sides) t _ (m .match .queues) (c .before .put-sides .ensures) (kept m),
+      turn-made (a .kinds .now) (a .addresses .now) (a .first) (a .n) (a .turns) (a .from) (a .to) (a .ram .now) (lentList (a .core) (a .version) (a .ram .now) (a .queues .now) (a .values .now)) (a .stems .now) (a .at) (length (a .values .now)) (l .core) (l .version) (l .queues) (l .values) (l .stems) (l .place) (l .i) (l .turn) (l .stop) g (c .before .before .before .before .before .before .before .before .if1 .taken) (ch .result) (ch .ensures .0) (m .match .core) (m .match .sides) t _ (m .match .queues) (c .before .put-sides .ensures) (kept m),
       l .inv .1,
       l .inv .2,
       l .inv .3,
@@ -312,7 +312,7 @@ returns c =
     let g = l .inv .0 in
     let stop = c .before .if1 .left in
     let last = c .if3 .taken in
-    let o = over (a .kinds .now) (a .addresses .now) (a .of .first) (a .n) (a .turns) (a .from) (a .to) (a .ram .now) (lentList (a .core) (a .of .version) (a .ram .now) (a .queues .now) (a .values .now)) (a .stems .now) (a .at) (length (a .values .now)) (l .core) (l .version) (l .queues) (l .values) (l .stems) (l .place) (l .i) (l .turn) (l .stop) g stop last in (
+    let o = over (a .kinds .now) (a .addresses .now) (a .first) (a .n) (a .turns) (a .from) (a .to) (a .ram .now) (lentList (a .core) (a .version) (a .ram .now) (a .queues .now) (a .values .now)) (a .stems .now) (a .at) (length (a .values .now)) (l .core) (l .version) (l .queues) (l .values) (l .stems) (l .place) (l .i) (l .turn) (l .stop) g stop last in (
       ap (λ (s : Listed). s .core) o,
       (
         ap (λ (s : Listed). s .version) o,
@@ -323,8 +323,8 @@ returns c =
             (
               g .filled ∙ ap (λ (s : Listed). sets (a .stems .now) (a .at) (s .stems)) o,
               (
-                placed (a .kinds .now) (a .addresses .now) (a .of .first) (a .n) (a .turns) (a .from) (a .to) (a .ram .now) (lentList (a .core) (a .of .version) (a .ram .now) (a .queues .now) (a .values .now)) (a .stems .now) (a .at) (length (a .values .now)) (l .core) (l .version) (l .queues) (l .values) (l .stems) (l .place) (l .i) (l .turn) (l .stop) g stop last,
-                (g .ready .accepted, (each-before (a .kinds .now) (a .addresses .now) (a .of .first) (a .n) (a .turns) (a .from) (a .to) (a .ram .now) (lentList (a .core) (a .of .version) (a .ram .now) (a .queues .now) (a .values .now)) (a .stems .now) (a .at) (length (a .values .now)) (l .core) (l .version) (l .queues) (l .values) (l .stems) (l .place) (l .i) (l .turn) (l .stop) g stop last, (g .entries ∙ sym (b .pre .1 .0), g .long))),
+                placed (a .kinds .now) (a .addresses .now) (a .first) (a .n) (a .turns) (a .from) (a .to) (a .ram .now) (lentList (a .core) (a .version) (a .ram .now) (a .queues .now) (a .values .now)) (a .stems .now) (a .at) (length (a .values .now)) (l .core) (l .version) (l .queues) (l .values) (l .stems) (l .place) (l .i) (l .turn) (l .stop) g stop last,
+                (g .ready .accepted, (each-before (a .kinds .now) (a .addresses .now) (a .first) (a .n) (a .turns) (a .from) (a .to) (a .ram .now) (lentList (a .core) (a .version) (a .ram .now) (a .queues .now) (a .values .now)) (a .stems .now) (a .at) (length (a .values .now)) (l .core) (l .version) (l .queues) (l .values) (l .stems) (l .place) (l .i) (l .turn) (l .stop) g stop last, (g .entries ∙ sym (b .pre .1 .0), g .long))),
               ),
             ),
           ),
@@ -467,7 +467,7 @@ Called = lts.At-match2-came (channel-reads.Asked, channel-reads.Learnt, silent-r
 
 called : (c : Called)
     → (let a = c .before .before .before .before .before .before .before .before .before .before .before .args in let l = c .before .before .before .before .before .before .loop in let g = l .inv .0 in
-    Begins (a .kinds .now) (a .addresses .now) (a .of .first) (a .n) (l .i) (standing (a .ram .now) (l .core) (l .version) (l .queues) (l .values) (g .gave)) (standing (a .ram .now) (c .match2 .core) (c .match2 .version) (c .match2 .queues) (c .match2 .values) (g .gave)) (c .match2 .stop))
+    Begins (a .kinds .now) (a .addresses .now) (a .first) (a .n) (l .i) (standing (a .ram .now) (l .core) (l .version) (l .queues) (l .values) (g .gave)) (standing (a .ram .now) (c .match2 .core) (c .match2 .version) (c .match2 .queues) (c .match2 .values) (g .gave)) (c .match2 .stop))
 called c =
     let b = c .before .before .before .before .before .before .before .before .before .before .before in
     let a = b .args in
@@ -478,24 +478,24 @@ called c =
     let ask = sym (c .before .asked .ensures) in
     let isRead = eqb (getD (a .kinds .now) (l .i) 0) readRegisterKind in
     ⊎-elim
-    (λ w. begins-by (a .kinds .now) (a .addresses .now) (a .of .first) (a .n) (l .i) (standing (a .ram .now) (l .core) (l .version) (l .queues) (l .values) (g .gave)) (λ j. standing (a .ram .now) (w .4 j) (w .5 j) (w .3 j) (w .2 j) (g .gave)) (w .6) (store-none (a .kinds .now) (a .addresses .now) (a .of .first) (a .n) (l .i) (standing (a .ram .now) (l .core) (l .version) (l .queues) (l .values) (g .gave)) (g .ready) (ask ∙ w .1 .given .1) (b .pre .1 .1 .1 .1 (l .i) (omega (arith, g .begun)) (omega (arith, c .before .before .before .before .if3 .left)))))
+    (λ w. begins-by (a .kinds .now) (a .addresses .now) (a .first) (a .n) (l .i) (standing (a .ram .now) (l .core) (l .version) (l .queues) (l .values) (g .gave)) (λ j. standing (a .ram .now) (w .4 j) (w .5 j) (w .3 j) (w .2 j) (g .gave)) (w .6) (store-none (a .kinds .now) (a .addresses .now) (a .first) (a .n) (l .i) (standing (a .ram .now) (l .core) (l .version) (l .queues) (l .values) (g .gave)) (g .ready) (ask ∙ w .1 .given .1) (b .pre .1 .1 .1 .1 (l .i) (omega (arith, g .begun)) (omega (arith, c .before .before .before .before .if3 .left)))))
     (⊎-elim
-    (λ w. begins-by (a .kinds .now) (a .addresses .now) (a .of .first) (a .n) (l .i) (standing (a .ram .now) (l .core) (l .version) (l .queues) (l .values) (g .gave)) (λ j. standing (a .ram .now) (w .6 j) (w .7 j) (w .5 j) (w .4 j) (g .gave)) (w .8) (write-begins (a .kinds .now) (a .addresses .now) (a .of .first) (a .n) (l .i) (standing (a .ram .now) (l .core) (l .version) (l .queues) (l .values) (g .gave)) (g .ready) (ask ∙ w .1 .given .1) _ _ (wrote-wavetable (l .version) (l .core) (l .queues) address value _ _ (w .3 .taken) refl refl) (w .2 .given (l .i) .fits)))
+    (λ w. begins-by (a .kinds .now) (a .addresses .now) (a .first) (a .n) (l .i) (standing (a .ram .now) (l .core) (l .version) (l .queues) (l .values) (g .gave)) (λ j. standing (a .ram .now) (w .6 j) (w .7 j) (w .5 j) (w .4 j) (g .gave)) (w .8) (write-begins (a .kinds .now) (a .addresses .now) (a .first) (a .n) (l .i) (standing (a .ram .now) (l .core) (l .version) (l .queues) (l .values) (g .gave)) (g .ready) (ask ∙ w .1 .given .1) _ _ (wrote-wavetable (l .version) (l .core) (l .queues) address value _ _ (w .3 .taken) refl refl) (w .2 .given (l .i) .fits)))
     (⊎-elim
-    (λ w. begins-by (a .kinds .now) (a .addresses .now) (a .of .first) (a .n) (l .i) (standing (a .ram .now) (l .core) (l .version) (l .queues) (l .values) (g .gave)) (λ j. standing (a .ram .now) (w .17 j) (w .18 j) (w .16 j) (w .15 j) (g .gave)) (w .19) (write-begins (a .kinds .now) (a .addresses .now) (a .of .first) (a .n) (l .i) (standing (a .ram .now) (l .core) (l .version) (l .queues) (l .values) (g .gave)) (g .ready) (ask ∙ w .1 .given .1) _ _ (wrote-block (l .version) (l .core) (l .queues) address value _ _ (w .5 .result) (w .6 .result) (w .9 .result) (w .11 .result) (w .9 .last .1 .1 .0) (g .entries) (w .3 .left) (w .4 .taken) (w .5 .ensures .1) (w .5 .ensures .0) (w .6 .ensures) (w .9 .ensures .0) (w .11 .ensures) (w .9 .ensures .1) (stored-emptied (l .core) (w .5 .result) (w .9 .result) (w .11 .result) (w .14 .last .0) (w .12 .taken) (w .14 .ensures)) refl) (w .2 .given (l .i) .fits)))
+    (λ w. begins-by (a .kinds .now) (a .addresses .now) (a .first) (a .n) (l .i) (standing (a .ram .now) (l .core) (l .version) (l .queues) (l .values) (g .gave)) (λ j. standing (a .ram .now) (w .17 j) (w .18 j) (w .16 j) (w .15 j) (g .gave)) (w .19) (write-begins (a .kinds .now) (a .addresses .now) (a .first) (a .n) (l .i) (standing (a .ram .now) (l .core) (l .version) (l .queues) (l .values) (g .gave)) (g .ready) (ask ∙ w .1 .given .1) _ _ (wrote-block (l .version) (l .core) (l .queues) address value _ _ (w .5 .result) (w .6 .result) (w .9 .result) (w .11 .result) (w .9 .last .1 .1 .0) (g .entries) (w .3 .left) (w .4 .taken) (w .5 .ensures .1) (w .5 .ensures .0) (w .6 .ensures) (w .9 .ensures .0) (w .11 .ensures) (w .9 .ensures .1) (stored-emptied (l .core) (w .5 .result) (w .9 .result) (w .11 .result) (w .14 .last .0) (w .12 .taken) (w .14 .ensures)) refl) (w .2 .given (l .i) .fits)))
     (⊎-elim
-    (λ w. begins-by (a .kinds .now) (a .addresses .now) (a .of .first) (a .n) (l .i) (standing (a .ram .now) (l .core) (l .version) (l .queues) (l .values) (g .gave)) (λ j. standing (a .ram .now) (w .15 j) (w .16 j) (w .14 j) (w .13 j) (g .gave)) (w .17) (write-begins (a .kinds .now) (a .addresses .now) (a .of .first) (a .n) (l .i) (standing (a .ram .now) (l .core) (l .version) (l .queues) (l .values) (g .gave)) (g .ready) (ask ∙ w .1 .given .1) _ _ (wrote-block (l .version) (l .core) (l .queues) address value _ _ (w .5 .result) (w .6 .result) (w .9 .result) (w .11 .result) (w .9 .last .1 .1 .0) (g .entries) (w .3 .left) (w .4 .taken) (w .5 .ensures .1) (w .5 .ensures .0) (w .6 .ensures) (w .9 .ensures .0) (w .11 .ensures) (w .9 .ensures .1) (stored-kept (l .core) (w .5 .result) (w .9 .result) (w .11 .result) (w .12 .left)) refl) (w .2 .given (l .i) .fits)))
+    (λ w. begins-by (a .kinds .now) (a .addresses .now) (a .first) (a .n) (l .i) (standing (a .ram .now) (l .core) (l .version) (l .queues) (l .values) (g .gave)) (λ j. standing (a .ram .now) (w .15 j) (w .16 j) (w .14 j) (w .13 j) (g .gave)) (w .17) (write-begins (a .kinds .now) (a .addresses .now) (a .first) (a .n) (l .i) (standing (a .ram .now) (l .core) (l .version) (l .queues) (l .values) (g .gave)) (g .ready) (ask ∙ w .1 .given .1) _ _ (wrote-block (l .version) (l .core) (l .queues) address value _ _ (w .5 .result) (w .6 .result) (w .9 .result) (w .11 .result) (w .9 .last .1 .1 .0) (g .entries) (w .3 .left) (w .4 .taken) (w .5 .ensures .1) (w .5 .ensures .0) (w .6 .ensures) (w .9 .ensures .0) (w .11 .ensures) (w .9 .ensures .1) (stored-kept (l .core) (w .5 .result) (w .9 .result) (w .11 .result) (w .12 .left)) refl) (w .2 .given (l .i) .fits)))
     (⊎-elim
-    (λ w. begins-by (a .kinds .now) (a .addresses .now) (a .of .first) (a .n) (l .i) (standing (a .ram .now) (l .core) (l .version) (l .queues) (l .values) (g .gave)) (λ j. standing (a .ram .now) (w .7 j) (w .8 j) (w .6 j) (w .5 j) (g .gave)) (w .9) (write-begins (a .kinds .now) (a .addresses .now) (a .of .first) (a .n) (l .i) (standing (a .ram .now) (l .core) (l .version) (l .queues) (l .values) (g .gave)) (g .ready) (ask ∙ w .1 .given .1) _ _ (wrote-above (l .version) (l .core) (l .queues) address value _ _ (w .3 .left) (w .4 .left) refl refl) (w .2 .given (l .i) .fits)))
+    (λ w. begins-by (a .kinds .now) (a .addresses .now) (a .first) (a .n) (l .i) (standing (a .ram .now) (l .core) (l .version) (l .queues) (l .values) (g .gave)) (λ j. standing (a .ram .now) (w .7 j) (w .8 j) (w .6 j) (w .5 j) (g .gave)) (w .9) (write-begins (a .kinds .now) (a .addresses .now) (a .first) (a .n) (l .i) (standing (a .ram .now) (l .core) (l .version) (l .queues) (l .values) (g .gave)) (g .ready) (ask ∙ w .1 .given .1) _ _ (wrote-above (l .version) (l .core) (l .queues) address value _ _ (w .3 .left) (w .4 .left) refl refl) (w .2 .given (l .i) .fits)))
     (⊎-elim
-    (λ w. begins-by (a .kinds .now) (a .addresses .now) (a .of .first) (a .n) (l .i) (standing (a .ram .now) (l .core) (l .version) (l .queues) (l .values) (g .gave)) (λ j. standing (a .ram .now) (w .14 j) (w .15 j) (w .13 j) (w .12 j) (g .gave)) (w .16) (look-begins (a .kinds .now) (a .addresses .now) (a .of .first) (a .n) (l .i) (standing (a .ram .now) (l .core) (l .version) (l .queues) (l .values) (g .gave)) (g .ready) (ask ∙ w .1 .given .1) _ _ (look-emptied (l .core) address (w .2 .result) (w .2 .ensures .0) isRead (w .7 .result) (w .9 .result) _ (w .7 .ensures) (w .8 .taken) (w .9 .ensures) (stored-emptied (l .core) (w .2 .result) (w .9 .result) true (w .11 .last .0) refl (w .11 .ensures))) (look-byte (l .core) address (w .2 .result) (w .2 .ensures .0) (l .version) (w .6 .result) (w .6 .ensures))))
+    (λ w. begins-by (a .kinds .now) (a .addresses .now) (a .first) (a .n) (l .i) (standing (a .ram .now) (l .core) (l .version) (l .queues) (l .values) (g .gave)) (λ j. standing (a .ram .now) (w .14 j) (w .15 j) (w .13 j) (w .12 j) (g .gave)) (w .16) (look-begins (a .kinds .now) (a .addresses .now) (a .first) (a .n) (l .i) (standing (a .ram .now) (l .core) (l .version) (l .queues) (l .values) (g .gave)) (g .ready) (ask ∙ w .1 .given .1) _ _ (look-emptied (l .core) address (w .2 .result) (w .2 .ensures .0) isRead (w .7 .result) (w .9 .result) _ (w .7 .ensures) (w .8 .taken) (w .9 .ensures) (stored-emptied (l .core) (w .2 .result) (w .9 .result) true (w .11 .last .0) refl (w .11 .ensures))) (look-byte (l .core) address (w .2 .result) (w .2 .ensures .0) (l .version) (w .6 .result) (w .6 .ensures))))
     (⊎-elim
-    (λ w. begins-by (a .kinds .now) (a .addresses .now) (a .of .first) (a .n) (l .i) (standing (a .ram .now) (l .core) (l .version) (l .queues) (l .values) (g .gave)) (λ j. standing (a .ram .now) (w .11 j) (w .12 j) (w .10 j) (w .9 j) (g .gave)) (w .13) (look-begins (a .kinds .now) (a .addresses .now) (a .of .first) (a .n) (l .i) (standing (a .ram .now) (l .core) (l .version) (l .queues) (l .values) (g .gave)) (g .ready) (ask ∙ w .1 .given .1) _ _ (look-kept (l .core) address (w .2 .result) (w .2 .ensures .0) isRead (w .7 .result) (w .7 .ensures) (w .8 .left)) (look-byte (l .core) address (w .2 .result) (w .2 .ensures .0) (l .version) (w .6 .result) (w .6 .ensures))))
+    (λ w. begins-by (a .kinds .now) (a .addresses .now) (a .first) (a .n) (l .i) (standing (a .ram .now) (l .core) (l .version) (l .queues) (l .values) (g .gave)) (λ j. standing (a .ram .now) (w .11 j) (w .12 j) (w .10 j) (w .9 j) (g .gave)) (w .13) (look-begins (a .kinds .now) (a .addresses .now) (a .first) (a .n) (l .i) (standing (a .ram .now) (l .core) (l .version) (l .queues) (l .values) (g .gave)) (g .ready) (ask ∙ w .1 .given .1) _ _ (look-kept (l .core) address (w .2 .result) (w .2 .ensures .0) isRead (w .7 .result) (w .7 .ensures) (w .8 .left)) (look-byte (l .core) address (w .2 .result) (w .2 .ensures .0) (l .version) (w .6 .result) (w .6 .ensures))))
     (⊎-elim
-    (λ w. begins-by (a .kinds .now) (a .addresses .now) (a .of .first) (a .n) (l .i) (standing (a .ram .now) (l .core) (l .version) (l .queues) (l .values) (g .gave)) (λ j. standing (a .ram .now) (w .4 j) (w .5 j) (w .3 j) (w .2 j) (g .gave)) (w .6) (clock-begins (a .kinds .now) (a .addresses .now) (a .of .first) (a .n) (l .i) (standing (a .ram .now) (l .core) (l .version) (l .queues) (l .values) (g .gave)) (g .ready) (ask ∙ w .1 .given .1)))
+    (λ w. begins-by (a .kinds .now) (a .addresses .now) (a .first) (a .n) (l .i) (standing (a .ram .now) (l .core) (l .version) (l .queues) (l .values) (g .gave)) (λ j. standing (a .ram .now) (w .4 j) (w .5 j) (w .3 j) (w .2 j) (g .gave)) (w .6) (clock-begins (a .kinds .now) (a .addresses .now) (a .first) (a .n) (l .i) (standing (a .ram .now) (l .core) (l .version) (l .queues) (l .values) (g .gave)) (g .ready) (ask ∙ w .1 .given .1)))
     (⊎-elim
-    (λ w. begins-by (a .kinds .now) (a .addresses .now) (a .of .first) (a .n) (l .i) (standing (a .ram .now) (l .core) (l .version) (l .queues) (l .values) (g .gave)) (λ j. standing (a .ram .now) (w .6 j) (w .7 j) (w .5 j) (w .4 j) (g .gave)) (w .8) (version-begins (a .kinds .now) (a .addresses .now) (a .of .first) (a .n) (l .i) (standing (a .ram .now) (l .core) (l .version) (l .queues) (l .values) (g .gave)) (g .ready) (ask ∙ w .1 .given .1) _ _ (w .2 .ensures) (w .3 .ensures)))
-    (λ w. begins-by (a .kinds .now) (a .addresses .now) (a .of .first) (a .n) (l .i) (standing (a .ram .now) (l .core) (l .version) (l .queues) (l .values) (g .gave)) (λ j. standing (a .ram .now) (w .4 j) (w .5 j) (w .3 j) (w .2 j) (g .gave)) (w .6) (nothing-begins (a .kinds .now) (a .addresses .now) (a .of .first) (a .n) (l .i) (standing (a .ram .now) (l .core) (l .version) (l .queues) (l .values) (g .gave)) (g .ready) (ask ∙ w .1 .given .1)))
+    (λ w. begins-by (a .kinds .now) (a .addresses .now) (a .first) (a .n) (l .i) (standing (a .ram .now) (l .core) (l .version) (l .queues) (l .values) (g .gave)) (λ j. standing (a .ram .now) (w .6 j) (w .7 j) (w .5 j) (w .4 j) (g .gave)) (w .8) (version-begins (a .kinds .now) (a .addresses .now) (a .first) (a .n) (l .i) (standing (a .ram .now) (l .core) (l .version) (l .queues) (l .values) (g .gave)) (g .ready) (ask ∙ w .1 .given .1) _ _ (w .2 .ensures) (w .3 .ensures)))
+    (λ w. begins-by (a .kinds .now) (a .addresses .now) (a .first) (a .n) (l .i) (standing (a .ram .now) (l .core) (l .version) (l .queues) (l .values) (g .gave)) (λ j. standing (a .ram .now) (w .4 j) (w .5 j) (w .3 j) (w .2 j) (g .gave)) (w .6) (nothing-begins (a .kinds .now) (a .addresses .now) (a .first) (a .n) (l .i) (standing (a .ram .now) (l .core) (l .version) (l .queues) (l .values) (g .gave)) (g .ready) (ask ∙ w .1 .given .1)))
     ))))))))
     (c .match2 .came)
 
@@ -519,7 +519,7 @@ loop-again-2 c =
     let g = l .inv .0 in
     let e = called c in
     let m = clocked-most (a .kinds .now) (a .addresses .now) (a .from) (a .to) (l .i) (omega (arith, g .begun)) (omega (arith, c .before .before .before .before .if3 .left)) in (
-      call-begun (a .kinds .now) (a .addresses .now) (a .of .first) (a .n) (a .turns) (a .from) (a .to) (a .ram .now) (lentList (a .core) (a .of .version) (a .ram .now) (a .queues .now) (a .values .now)) (a .stems .now) (a .at) (length (a .values .now)) (l .core) (l .version) (l .queues) (l .values) (l .stems) (l .place) (l .i) (l .turn) (l .stop) g (c .before .before .before .before .before .if1 .left) (omega (arith, c .before .before .before .before .if3 .left)) (standing (a .ram .now) (c .match2 .core) (c .match2 .version) (c .match2 .queues) (c .match2 .values) (g .gave)) (c .match2 .stop) (e .ram) (e .stems) (e .ready) (e .entries ∙ g .entries) (e .long ∙ g .long) (e .made) (e .count),
+      call-begun (a .kinds .now) (a .addresses .now) (a .first) (a .n) (a .turns) (a .from) (a .to) (a .ram .now) (lentList (a .core) (a .version) (a .ram .now) (a .queues .now) (a .values .now)) (a .stems .now) (a .at) (length (a .values .now)) (l .core) (l .version) (l .queues) (l .values) (l .stems) (l .place) (l .i) (l .turn) (l .stop) g (c .before .before .before .before .before .if1 .left) (omega (arith, c .before .before .before .before .if3 .left)) (standing (a .ram .now) (c .match2 .core) (c .match2 .version) (c .match2 .queues) (c .match2 .values) (g .gave)) (c .match2 .stop) (e .ram) (e .stems) (e .ready) (e .entries ∙ g .entries) (e .long ∙ g .long) (e .made) (e .count),
       l .inv .1,
       l .inv .2,
       l .inv .3,
