@@ -1,0 +1,4 @@
+pub mod Tests
+pub mod Channels
+pub mod FreshTicks
+pub mod Resting
