@@ -6,6 +6,7 @@ use mathlib.Core.List.{List, [], _∷_}
 use Prim.Native.Nat.{ℕ, suc, _+_, _≤_}
 use native.Mathlib.Omega.{arith}
 use lib.ListN.{length}
+use Rattle.cores.specs.Sizes.{chipVoices}
 use Rattle.tone.specs.Pcm.{isRamLength}
 use Rattle.version.specs.declared.SguVersion.{SguVersion}
 use Rattle.plain_chip.specs.Lists.{Every}
@@ -50,11 +51,11 @@ module _ (t : Texts) (texts : TextsOk t) where
     unfolding sizeIn
     same-sizes = ap sizeIn same-heads
 
-  one-same : (version : SguVersion) (k : ℕ) (v w : PlainVoice) → k + 1 ≤ 8 → FitVoice version v → FitVoice version w → t .voiceText k v ≡ t .voiceText k w → v ≡ w
+  one-same : (version : SguVersion) (k : ℕ) (v w : PlainVoice) → k + 1 ≤ chipVoices → FitVoice version v → FitVoice version w → t .voiceText k v ≡ t .voiceText k w → v ≡ w
   unfolding fieldsIn
   one-same version k v w h f g e = ap fieldsIn (sym (texts .voice-back version k v (omega arith) f) ∙ ap (t .readVoice version) e ∙ texts .voice-back version k w (omega arith) g)
 
-  pub same-lines : (version : SguVersion) (k : ℕ) (l m : List PlainVoice) → length l ≡ length m → k + length l ≤ 8 → Every (FitVoice version) l → Every (FitVoice version) m → linesFrom t k l ≡ linesFrom t k m → l ≡ m
+  pub same-lines : (version : SguVersion) (k : ℕ) (l m : List PlainVoice) → length l ≡ length m → k + length l ≤ chipVoices → Every (FitVoice version) l → Every (FitVoice version) m → linesFrom t k l ≡ linesFrom t k m → l ≡ m
   unfolding first rest
   same-lines version k [] [] n h f g e = refl
   same-lines version k [] (w ∷ m) n h f g e = absurd (omega (arith, n))

@@ -1,4 +1,3 @@
-pub mod Mixing
 pub mod Steps
 pub mod Loads
 pub mod Equal

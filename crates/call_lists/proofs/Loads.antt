@@ -1,29 +1,54 @@
--- Voice lines read in order, from channel 0 up, give a plain chip the voices that they were written of. Assumes nothing.
+-- Voice lines read in order, from voice 0 up, give a plain chip the voices that they were written of. Assumes nothing.
 use mathlib.Core.Path.{_≡_, refl, sym, ap, _∙_}
-use mathlib.Core.List.{List, [], _∷_, _++_, map, append-assoc}
-use Prim.Native.Nat.{ℕ, suc, _+_, _≤_, _<_}
+use mathlib.Core.List.{List, [], _∷_, _++_, map, append-assoc, map-append}
+use Prim.Native.Nat.{ℕ, zero, suc, _+_, _*_, _/_, _%_, _≤_, _<_}
 use native.Mathlib.Omega.{arith}
-use lib.ListN.{length, set, length-append, replicate}
-use lib.Seq.{set-append-seam}
+use lib.ListN.{length, getD, set, take, drop, replicate, length-append, length-map}
+use lib.Seq.{set-append-seam, take-at, drop-at, take-set-lt, take-set-le, drop-set-lt, drop-set-add}
+use Rattle.sizes.specs.Sizes.{numChannels}
+use Rattle.cores.specs.Sizes.{numCores, chipVoices}
 use Rattle.version.specs.declared.SguVersion.{SguVersion}
 use Rattle.plain_chip.specs.Lists.{Every}
 use Rattle.plain_chip.specs.Voices.{PlainVoice}
 use Rattle.plain_chip.specs.Models.{plains}
-use Rattle.plain_chip.specs.Chips.{Plain}
+use Rattle.plain_chip.specs.Chips.{loadVoice}
+use Rattle.pair_chip.specs.Pairs.{Plain, onCore}
 use Rattle.plain_chip.specs.Good.{FitVoice}
 use Rattle.call_lists.specs.Runs.{Outcome, after, trace}
 use Rattle.call_lists.specs.Texts.{Texts, TextsOk, VoiceRead}
 use Rattle.call_lists.specs.Calls.{CallAnswer, readVoice, voiceTold, replies, done, run}
 use Rattle.call_lists.specs.Seen.{Seen, linesFrom}
 
+-- sixteen voices as those of two cores
+abbrev pub split : {A : Type 0} → List A → List (List A)
+split l = take numChannels l ∷ drop numChannels l ∷ []
+
+pub split-seen : {A B : Type 0} (g : A → B) (l : List (List A)) → length l ≡ numCores → length (getD l 0 []) ≡ numChannels → map (map g) l ≡ split (map g (getD l 0 [] ++ getD l 1 []))
+split-seen g [] e h = absurd (omega arith)
+split-seen g (x ∷ []) e h = absurd (omega arith)
+split-seen g (x ∷ y ∷ []) e h =
+    let n : length (map g x) ≡ numChannels = length-map x g ∙ h in
+    rw (map-append, take-at (map g x) (map g y) numChannels n, drop-at (map g x) (map g y) numChannels n) refl
+split-seen g (x ∷ y ∷ z ∷ l) e h = absurd (omega arith)
+
 module _ (t : Texts) (texts : TextsOk t) (version : SguVersion) (ram : List ℕ) where
   abbrev over : List PlainVoice → Plain
-  over l = record { version = version; ram = ram; voices = l }
+  over l = record { version = version; ram = ram; cores = split l }
+
+  -- voice j of core i
+  placed : (i j k : ℕ) (v : PlainVoice) (l : List PlainVoice) → k ≡ numChannels * i + j → j < numChannels → i < numCores → onCore i (loadVoice plains j v) (over l) ≡ over (set l k v)
+  placed zero j k v l e h q =
+      let n : j ≡ k = omega arith in
+      ap (λ (m : ℕ). onCore 0 (loadVoice plains m v) (over l)) n ∙ rw (take-set-lt numChannels l k v (omega arith), drop-set-lt numChannels l k v (omega arith)) refl
+  placed (suc zero) j k v l e h q =
+      let n : k ≡ numChannels + j = omega arith in
+      rw (n, take-set-le numChannels l (numChannels + j) v (omega arith), drop-set-add numChannels l j v) refl
+  placed (suc (suc i)) j k v l e h q = absurd (omega arith)
 
   -- one line
-  read-one : (k : ℕ) (v : PlainVoice) (l : List PlainVoice) → k < 8 → FitVoice version v → run plains t (over l) (readVoice (t .voiceText k v)) .next ≡ over (set l k v)
+  read-one : (k : ℕ) (v : PlainVoice) (l : List PlainVoice) → k < chipVoices → FitVoice version v → run plains t (over l) (readVoice (t .voiceText k v)) .next ≡ over (set l k v)
   unfolding run
-  read-one k v l h f = ap (λ (r : VoiceRead). voiceTold plains t (over l) r .next) (texts .voice-back version k v h f)
+  read-one k v l h f = ap (λ (r : VoiceRead). voiceTold plains t (over l) r .next) (texts .voice-back version k v h f) ∙ placed (k / numChannels) (k % numChannels) k v l (omega arith) (omega arith) (omega arith)
 
   one-more : (pre : List PlainVoice) (v : PlainVoice) (l : List PlainVoice) → (pre ++ (v ∷ [])) ++ l ≡ pre ++ (v ∷ l)
   one-more pre v l = append-assoc pre (v ∷ []) l
@@ -32,7 +57,7 @@ module _ (t : Texts) (texts : TextsOk t) (version : SguVersion) (ram : List ℕ)
   longer pre v = length-append pre (v ∷ []) ∙ omega arith
 
   -- those after the ones that have been read
-  read-rest : (l cur pre : List PlainVoice) → length cur ≡ length l → length pre + length l ≤ 8 → Every (FitVoice version) l
+  read-rest : (l cur pre : List PlainVoice) → length cur ≡ length l → length pre + length l ≤ chipVoices → Every (FitVoice version) l
       → after (run plains t) (over (pre ++ cur)) (map readVoice (linesFrom t (length pre) l)) ≡ over (pre ++ l)
   read-rest [] [] pre e h p = refl
   read-rest [] (x ∷ cur) pre e h p = absurd (omega arith)
@@ -45,12 +70,12 @@ module _ (t : Texts) (texts : TextsOk t) (version : SguVersion) (ram : List ℕ)
       ∙ read-rest l cur (pre ++ (v ∷ [])) (omega arith) (let m = longer pre v in omega (arith, m)) (p .1)
       ∙ ap over (one-more pre v l)
 
-  pub read-all : (l cur : List PlainVoice) → length cur ≡ length l → length l ≤ 8 → Every (FitVoice version) l
+  pub read-all : (l cur : List PlainVoice) → length cur ≡ length l → length l ≤ chipVoices → Every (FitVoice version) l
       → after (run plains t) (over cur) (map readVoice (linesFrom t 0 l)) ≡ over l
   read-all l cur e h p = read-rest l cur [] e (omega arith) p
 
   -- and each is taken
-  pub read-done : (show : Plain → Seen) (k : ℕ) (l : List PlainVoice) (c : Plain) → c .version ≡ version → k + length l ≤ 8 → Every (FitVoice version) l
+  pub read-done : (show : Plain → Seen) (k : ℕ) (l : List PlainVoice) (c : Plain) → c .version ≡ version → k + length l ≤ chipVoices → Every (FitVoice version) l
       → map (λ (r : Outcome Seen CallAnswer). r .answer) (trace (run plains t) show c (map readVoice (linesFrom t k l))) ≡ replicate (length l) (replies done)
   unfolding run
   read-done show k [] c e h p = refl

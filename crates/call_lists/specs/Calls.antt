@@ -1,41 +1,44 @@
 -- The calls of demand 3, and what each leaves and answers, over a model of voices: the chip over slots, the plain chip over plain voices.
-use mathlib.Core.Bool.{Bool, cond}
+-- Voice v, 0 to 15, is channel v % 8 of core v / 8.
+use mathlib.Core.Bool.{Bool, false, cond}
 use mathlib.Core.List.{List, [], _∷_}
-use Prim.Native.Nat.{ℕ, _*_, min}
+use Prim.Native.Nat.{ℕ, _*_, _/_, _%_}
 use lib.Dec.{eqb, leb}
 use lib.IntN.{ℤ}
-use lib.ListN.{length}
+use lib.ListN.{length, getD}
 use lib.Seq.{sets}
-use Rattle.sizes.specs.Sizes.{numChannels, stemsPerFrame}
+use Rattle.sizes.specs.Sizes.{numChannels}
+use Rattle.cores.specs.Sizes.{chipVoices, chipStems}
 use Rattle.endings.specs.Sets.{off, setOf}
 use Rattle.version.specs.declared.SguVersion.{SguVersion}
 use Rattle.sides.specs.Sides.{saturating, wrapping}
 use Rattle.plain_chip.specs.Models.{Model}
-use Rattle.plain_chip.specs.Chips.{ModelChip, withVoices, fieldsAt, loadVoice}
+use Rattle.plain_chip.specs.Chips.{loadVoice}
 use Rattle.plain_chip.specs.Chips as chips
+use Rattle.pair_chip.specs.Pairs.{Pair, onCore, ofCore, onAll, fieldsAt, coreTick, ticked, framed, framesStems, framesValues}
 use Rattle.call_lists.specs.Runs.{Outcome}
-use Rattle.call_lists.specs.Mixing.{Mix, mixed, clearedTo}
+use Rattle.call_lists.specs.Mixing.{served, mixedSide, clearedTo}
 use Rattle.call_lists.specs.Texts.{Texts, VoiceRead, voice, queued, HeadRead, head, sized}
 
--- stems, sides and texts come with the call
+-- the core comes first; stems, sides and texts come with the call
 pub data Call : Type 0 where
   reset : Call
   setVersion : SguVersion → Call
-  resetChannel : ℕ → Call
-  writeRegister : ℕ → ℕ → Call
-  readRegister : ℕ → Call
-  peekRegister : ℕ → Call
-  writeChannelControl : ℕ → ℕ → ℕ → Call
-  readChannelControl : ℕ → ℕ → Call
-  writeChannelPcmReg : ℕ → ℕ → ℕ → Call
-  readChannelPcmReg : ℕ → ℕ → Call
-  writeChannelWavetable : ℕ → ℕ → ℕ → Call
-  readChannelWavetable : ℕ → ℕ → Call
-  wavetableLength : ℕ → Call
-  interpolates : ℕ → Call
+  resetChannel : ℕ → ℕ → Call
+  writeRegister : ℕ → ℕ → ℕ → Call
+  readRegister : ℕ → ℕ → Call
+  peekRegister : ℕ → ℕ → Call
+  writeChannelControl : ℕ → ℕ → ℕ → ℕ → Call
+  readChannelControl : ℕ → ℕ → ℕ → Call
+  writeChannelPcmReg : ℕ → ℕ → ℕ → ℕ → Call
+  readChannelPcmReg : ℕ → ℕ → ℕ → Call
+  writeChannelWavetable : ℕ → ℕ → ℕ → ℕ → Call
+  readChannelWavetable : ℕ → ℕ → ℕ → Call
+  wavetableLength : ℕ → ℕ → Call
+  interpolates : ℕ → ℕ → Call
   writePcmRam : ℕ → ℕ → Call
   readPcmRam : ℕ → Call
-  generateSample : ℕ → Call
+  generateSample : ℕ → ℕ → Call
   clock : ℕ → List ℤ → Call
   clockMixed : List ℤ → List ℤ → Call
   clockMixedInto : List ℤ → List ℤ → Call
@@ -78,68 +81,65 @@ lineAnswer line out =
     (record { reply = refused (15 ∷ []); sides = []; text = out; values = [] })
 
 module _ {A : Type 0} (m : Model A) (t : Texts) where
-  abbrev pub gives : ModelChip A → CallAnswer → Outcome (ModelChip A) CallAnswer
+  abbrev pub gives : Pair A → CallAnswer → Outcome (Pair A) CallAnswer
   gives c a = record { next = c; answer = a }
 
-  abbrev pub mixes : (ℤ → ℤ → ℤ) → ModelChip A → List ℤ → List ℤ → Mix A
-  mixes plus c left right = mixed m plus (c .version) (c .ram) (min (length left) (length right)) (record { voices = c .voices; left = left; right = right; values = [] })
+  -- whether a voice was active and is so no more; the voices of which that is true
+  abbrev pub endedAt : Pair A → Pair A → ℕ → ℕ → Bool
+  endedAt c d core ch = off (fieldsAt m c core ch .pcm .active) (fieldsAt m d core ch .pcm .active)
 
-  -- whether voice ch was active and is so no more; the voices of which that is true
-  abbrev pub endedAt : ModelChip A → ModelChip A → ℕ → Bool
-  endedAt c d ch = off (fieldsAt m c ch .pcm .active) (fieldsAt m d ch .pcm .active)
-
-  abbrev pub endedIn : ModelChip A → ModelChip A → ℕ
-  endedIn c d = setOf numChannels (endedAt c d)
-
-  abbrev pub mixedTo : ModelChip A → Mix A → Reply → Outcome (ModelChip A) CallAnswer
-  mixedTo c x reply = gives (withVoices c (x .voices)) (plays reply (x .left ∷ x .right ∷ []) (x .values))
+  abbrev pub endedIn : Pair A → Pair A → ℕ
+  endedIn c d = setOf chipVoices (λ v. endedAt c d (v / numChannels) (v % numChannels))
 
   -- a head that tells the length of another RAM is turned away
-  abbrev pub headTold : ModelChip A → HeadRead → Outcome (ModelChip A) CallAnswer
-  headTold c (head version) = gives (chips.setVersion m version c) (replies done)
-  headTold c (sized version size) = cond (eqb size (length (c .ram))) (gives (chips.setVersion m version c) (replies done)) (gives c (replies (refused (22 ∷ []))))
+  abbrev pub headTold : Pair A → HeadRead → Outcome (Pair A) CallAnswer
+  headTold c (head version) = gives (onAll (chips.setVersion m version) c) (replies done)
+  headTold c (sized version size) = cond (eqb size (length (c .ram))) (gives (onAll (chips.setVersion m version) c) (replies done)) (gives c (replies (refused (22 ∷ []))))
   headTold c (HeadRead.faulty field) = gives c (replies (refused (16 ∷ field ∷ [])))
 
-  abbrev pub voiceTold : ModelChip A → VoiceRead → Outcome (ModelChip A) CallAnswer
-  voiceTold c (voice ch fields) = gives (loadVoice m ch fields c) (replies done)
+  abbrev pub voiceTold : Pair A → VoiceRead → Outcome (Pair A) CallAnswer
+  voiceTold c (voice v fields) = gives (onCore (v / numChannels) (loadVoice m (v % numChannels) fields) c) (replies done)
   voiceTold c (VoiceRead.faulty field) = gives c (replies (refused (16 ∷ field ∷ [])))
   voiceTold c queued = gives c (replies (refused (23 ∷ [])))
 
-  abbrev pub clocks : ℕ → List ℤ → ModelChip A → Outcome (ModelChip A) CallAnswer
+  abbrev pub clocks : ℕ → List ℤ → Pair A → Outcome (Pair A) CallAnswer
   clocks n stems c =
-      cond (eqb (length stems) (stemsPerFrame * n)) (gives (chips.afterClocked m n c) (plays (ended (endedIn c (chips.afterClocked m n c))) (chips.clocked m n c .stems ∷ []) (chips.clocked m n c .values)))
+      cond (eqb (length stems) (chipStems * n)) (gives (framed m n c) (plays (ended (endedIn c (framed m n c))) (framesStems m n c ∷ []) (framesValues m n c)))
       (gives c (plays (refused (14 ∷ [])) (stems ∷ []) []))
 
-  unfoldable pub run : ModelChip A → Call → Outcome (ModelChip A) CallAnswer
-  run c reset = gives (chips.reset m c) (replies done)
-  run c (setVersion version) = gives (chips.setVersion m version c) (replies done)
-  run c (resetChannel ch) = gives (chips.resetChannel m ch c) (replies done)
-  run c (writeRegister address value) = gives (chips.writeRegister m address value c) (replies done)
-  run c (readRegister address) = gives (chips.afterReadRegister m address c) (replies (byte (chips.peekRegister m address c)))
-  run c (peekRegister address) = gives c (replies (byte (chips.peekRegister m address c)))
-  run c (writeChannelControl ch offset value) = gives (chips.writeChannelControl m ch offset value c) (replies done)
-  run c (readChannelControl ch offset) = gives (chips.afterReadChannel m ch offset c) (replies (byte (chips.readChannelControl m ch offset c)))
-  run c (writeChannelPcmReg ch offset value) = gives (chips.writeChannelPcmReg m ch offset value c) (replies done)
-  run c (readChannelPcmReg ch offset) = gives c (replies (byte (chips.readChannelPcmReg m ch offset c)))
-  run c (writeChannelWavetable ch at value) = gives (chips.writeChannelWavetable m ch at value c) (replies done)
-  run c (readChannelWavetable ch at) = gives c (replies (byte (chips.readChannelWavetable m ch at c)))
-  run c (wavetableLength ch) = gives c (replies (count (chips.wavetableLength m ch c)))
-  run c (interpolates ch) = gives c (replies (flag (chips.interpolatesAt m ch c)))
-  run c (writePcmRam address value) = gives (chips.writePcmRam m address value c) (replies done)
-  run c (readPcmRam address) = gives c (replies (byte (chips.readPcmRam m address c)))
-  run c (generateSample ch) =
-      let d = chips.afterGenerated m ch c in
-      gives d (plays (sample (chips.generated m ch c .sample) (endedAt c d ch)) [] (chips.generated m ch c .values))
+  abbrev pub mixes : (ℤ → ℤ → ℤ) → Pair A → List ℤ → List ℤ → Reply → Outcome (Pair A) CallAnswer
+  mixes plus c left right reply =
+      let n = served left right in
+      gives (framed m n c) (plays reply (mixedSide m plus n c 0 left ∷ mixedSide m plus n c 1 right ∷ []) (framesValues m n c))
+
+  unfoldable pub run : Pair A → Call → Outcome (Pair A) CallAnswer
+  run c reset = gives (onAll (chips.reset m) c) (replies done)
+  run c (setVersion version) = gives (onAll (chips.setVersion m version) c) (replies done)
+  run c (resetChannel core ch) = gives (onCore core (chips.resetChannel m ch) c) (replies done)
+  run c (writeRegister core address value) = gives (onCore core (chips.writeRegister m address value) c) (replies done)
+  run c (readRegister core address) = gives (onCore core (chips.afterReadRegister m address) c) (replies (byte (ofCore core 0 (chips.peekRegister m address) c)))
+  run c (peekRegister core address) = gives c (replies (byte (ofCore core 0 (chips.peekRegister m address) c)))
+  run c (writeChannelControl core ch offset value) = gives (onCore core (chips.writeChannelControl m ch offset value) c) (replies done)
+  run c (readChannelControl core ch offset) = gives (onCore core (chips.afterReadChannel m ch offset) c) (replies (byte (ofCore core 0 (chips.readChannelControl m ch offset) c)))
+  run c (writeChannelPcmReg core ch offset value) = gives (onCore core (chips.writeChannelPcmReg m ch offset value) c) (replies done)
+  run c (readChannelPcmReg core ch offset) = gives c (replies (byte (ofCore core 0 (chips.readChannelPcmReg m ch offset) c)))
+  run c (writeChannelWavetable core ch at value) = gives (onCore core (chips.writeChannelWavetable m ch at value) c) (replies done)
+  run c (readChannelWavetable core ch at) = gives c (replies (byte (ofCore core 0 (chips.readChannelWavetable m ch at) c)))
+  run c (wavetableLength core ch) = gives c (replies (count (ofCore core 0 (chips.wavetableLength m ch) c)))
+  run c (interpolates core ch) = gives c (replies (flag (ofCore core false (chips.interpolatesAt m ch) c)))
+  run c (writePcmRam address value) = gives (onAll (chips.writePcmRam m address value) c) (replies done)
+  run c (readPcmRam address) = gives c (replies (byte (getD (c .ram) address 0)))
+  run c (generateSample core ch) =
+      let d = ticked m ch core c in
+      gives d (plays (sample (coreTick m ch core c .sample) (endedAt c d core ch)) [] (coreTick m ch core c .values))
   run c (clock n stems) = clocks n stems c
   run c (clockMixed left right) =
-      let n = min (length left) (length right) in
-      mixedTo c (mixes saturating c (clearedTo n left) (clearedTo n right)) done
-  run c (clockMixedInto left right) = mixedTo c (mixes saturating c left right) done
-  run c (clockMixedIntoI32 left right) =
-      let x = mixes wrapping c left right in
-      mixedTo c x (ended (endedIn c (withVoices c (x .voices))))
+      let n = served left right in
+      mixes saturating c (clearedTo n left) (clearedTo n right) done
+  run c (clockMixedInto left right) = mixes saturating c left right done
+  run c (clockMixedIntoI32 left right) = mixes wrapping c left right (ended (endedIn c (framed m (served left right) c)))
   run c (writeHead out) = gives c (lineAnswer (t .headText (c .version) (length (c .ram))) out)
   run c (readHead text) = headTold c (t .readHead text)
-  run c (writeVoice ch out) = gives c (lineAnswer (t .voiceText ch (fieldsAt m c ch)) out)
+  run c (writeVoice v out) = gives c (lineAnswer (t .voiceText v (fieldsAt m c (v / numChannels) (v % numChannels))) out)
   run c (readVoice text) = voiceTold c (t .readVoice (c .version) text)
   run c (readStoredVoice text) = voiceTold c (t .readStored (c .version) text)

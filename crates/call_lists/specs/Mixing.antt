@@ -1,34 +1,20 @@
--- Frames added to two sides, one a place; the shorter of the two is served.
-use mathlib.Core.List.{List, _++_}
-use Prim.Native.Nat.{ℕ, zero, suc, min}
+-- Frames of both cores added to two sides, one a place; the shorter of the two is served.
+use mathlib.Core.List.{List}
+use Prim.Native.Nat.{ℕ, min}
 use lib.IntN.{ℤ, pos}
-use lib.ListN.{length, getD, set, replicate}
+use lib.ListN.{length, replicate}
 use lib.Seq.{sets}
-use Rattle.sizes.specs.Sizes.{numChannels}
-use Rattle.version.specs.declared.SguVersion.{SguVersion}
-use Rattle.sides.specs.Sides.{sideSum}
+use Rattle.sides.specs.Sides.{addedTo}
 use Rattle.plain_chip.specs.Models.{Model}
-use Rattle.plain_chip.specs.Frames.{frame}
+use Rattle.pair_chip.specs.Pairs.{Pair, coreFrames}
 
--- the voices, the sides that their frames are added to, the values ahead of the volume of all their ticks
-pub record Mix (A : Type 0) : Type 0 where
-  pub voices : List A
-  pub left : List ℤ
-  pub right : List ℤ
-  pub values : List ℤ
+-- the frames that two sides have places for
+abbrev pub served : List ℤ → List ℤ → ℕ
+served left right = min (length left) (length right)
 
--- a frame's sum added to a side at a place, by a way to add
-abbrev pub added : (ℤ → ℤ → ℤ) → List ℤ → ℕ → ℤ → List ℤ
-added plus side at sum = set side at (plus (getD side at (pos 0)) sum)
-
-module _ {A : Type 0} (m : Model A) (plus : ℤ → ℤ → ℤ) (version : SguVersion) (ram : List ℕ) where
-  -- n frames: each at its place
-  unfoldable pub mixed : ℕ → Mix A → Mix A
-  mixed zero x = x
-  mixed (suc n) x =
-      let b = mixed n x in
-      let f = frame m version ram (b .voices) in
-      record { voices = f .voices; left = added plus (b .left) n (sideSum numChannels (f .stems) 0); right = added plus (b .right) n (sideSum numChannels (f .stems) 1); values = b .values ++ f .values }
+-- n frames added to a side by a way to add; hand 0 is the left side, 1 the right one
+abbrev pub mixedSide : {A : Type 0} → Model A → (ℤ → ℤ → ℤ) → ℕ → Pair A → ℕ → List ℤ → List ℤ
+mixedSide m plus n p hand side = addedTo plus n (coreFrames m n 0 p .stems) (coreFrames m n 1 p .stems) hand 0 side
 
 -- zeros, as far as a side is served
 abbrev pub clearedTo : ℕ → List ℤ → List ℤ

@@ -3,7 +3,7 @@ use mathlib.Core.Path.{_≡_}
 use mathlib.Core.Bool.{true}
 use mathlib.Core.List.{List}
 use Prim.Native.Nat.{ℕ, _<_}
-use Rattle.sizes.specs.Sizes.{numChannels}
+use Rattle.cores.specs.Sizes.{chipVoices}
 use Rattle.tone.specs.Pcm.{isRamLength}
 use Rattle.version.specs.declared.SguVersion.{SguVersion}
 use Rattle.plain_chip.specs.Voices.{PlainVoice}
@@ -25,15 +25,15 @@ pub record Texts : Type 0 where
   -- of a chip over a RAM of some length
   pub headText : SguVersion → ℕ → List ℕ
   pub readHead : List ℕ → HeadRead
-  -- the line of voice ch; empty above 7
+  -- the line of a voice; empty above 15
   pub voiceText : ℕ → PlainVoice → List ℕ
   pub readVoice : SguVersion → List ℕ → VoiceRead
   -- of a stored line a chip without a FIFO drops what is in the queue
   pub readStored : SguVersion → List ℕ → VoiceRead
 
--- what is read is one of the eight voices, its fields in their ranges
+-- what is read is one of the sixteen voices, its fields in their ranges
 abbrev pub Told : SguVersion → VoiceRead → Type 0
-Told version (voice ch v) = (ch < numChannels) × FitVoice version v
+Told version (voice n v) = (n < chipVoices) × FitVoice version v
 Told version (faulty field) = Unit {0}
 Told version queued = Unit {0}
 
@@ -42,4 +42,4 @@ pub record TextsOk (t : Texts) : Type 0 where
   pub head-back : (version : SguVersion) (size : ℕ) → isRamLength size ≡ true → t .readHead (t .headText version size) ≡ sized version size
   pub told : (version : SguVersion) (text : List ℕ) → Told version (t .readVoice version text)
   pub stored-told : (version : SguVersion) (text : List ℕ) → Told version (t .readStored version text)
-  pub voice-back : (version : SguVersion) (ch : ℕ) (v : PlainVoice) → ch < numChannels → FitVoice version v → t .readVoice version (t .voiceText ch v) ≡ voice ch v
+  pub voice-back : (version : SguVersion) (n : ℕ) (v : PlainVoice) → n < chipVoices → FitVoice version v → t .readVoice version (t .voiceText n v) ≡ voice n v

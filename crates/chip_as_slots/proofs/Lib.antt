@@ -4,3 +4,4 @@ pub mod Stores
 pub mod Answers
 pub mod Ticks
 pub mod Frames
+pub mod Pairs

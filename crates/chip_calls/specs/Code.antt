@@ -24,22 +24,24 @@ use Rattle.chip_calls.specs.Values.{sampleCallValues, clockCallValues, m
 unfoldable pub code : Machine → Call → Outcome Machine CallAnswer
 code m reset = by (resetCalled (m .chip) (length (m .ram))) (resetRam (m .chip) (m .ram)) (m .queues) []
 code m (setVersion version) = by (setVersionCalled (m .chip) version) (m .ram) (m .queues) []
-code m (resetChannel ch) = by (resetChannelCalled (m .chip) ch) (m .ram) (m .queues) []
-code m (writeRegister address value) = by (writeRegisterCalled (m .chip) (length (m .queues)) address value) (m .ram) (writeRegisterBuffer (m .chip) (m .queues) address value) []
-code m (readRegister address) = by (readRegisterCalled (m .chip) address) (m .ram) (m .queues) []
-code m (peekRegister address) = onlyTells (m .chip) (m .ram) (m .queues) (peekRegisterAnswer (m .chip) address)
-code m (writeChannelControl ch offset value) =
-    by (writeChannelControlCalled (m .chip) (length (m .queues)) ch offset value) (m .ram) (writeChannelControlBuffer (m .chip) (m .queues) ch offset value) []
-code m (readChannelControl ch offset) = by (readChannelControlCalled (m .chip) ch offset) (m .ram) (m .queues) []
-code m (writeChannelPcmReg ch offset value) = by (writeChannelPcmRegCalled (m .chip) ch offset value) (m .ram) (m .queues) []
-code m (readChannelPcmReg ch offset) = onlyTells (m .chip) (m .ram) (m .queues) (readChannelPcmRegAnswer (m .chip) ch offset)
-code m (writeChannelWavetable ch at value) = by (writeChannelWavetableCalled (m .chip) ch at value) (m .ram) (m .queues) []
-code m (readChannelWavetable ch at) = onlyTells (m .chip) (m .ram) (m .queues) (readChannelWavetableAnswer (m .chip) ch at)
-code m (wavetableLength ch) = onlyTells (m .chip) (m .ram) (m .queues) (wavetableLengthAnswer (m .chip) ch)
-code m (interpolates ch) = onlyTells (m .chip) (m .ram) (m .queues) (interpolatesAnswer (m .chip) ch)
+code m (resetChannel core ch) = by (resetChannelCalled (m .chip) core ch) (m .ram) (m .queues) []
+code m (writeRegister core address value) =
+    by (writeRegisterCalled (m .chip) (length (m .queues)) core address value) (m .ram) (writeRegisterBuffer (m .chip) (m .queues) core address value) []
+code m (readRegister core address) = by (readRegisterCalled (m .chip) core address) (m .ram) (m .queues) []
+code m (peekRegister core address) = onlyTells (m .chip) (m .ram) (m .queues) (peekRegisterAnswer (m .chip) core address)
+code m (writeChannelControl core ch offset value) =
+    by (writeChannelControlCalled (m .chip) (length (m .queues)) core ch offset value) (m .ram) (writeChannelControlBuffer (m .chip) (m .queues) core ch offset value) []
+code m (readChannelControl core ch offset) = by (readChannelControlCalled (m .chip) core ch offset) (m .ram) (m .queues) []
+code m (writeChannelPcmReg core ch offset value) = by (writeChannelPcmRegCalled (m .chip) core ch offset value) (m .ram) (m .queues) []
+code m (readChannelPcmReg core ch offset) = onlyTells (m .chip) (m .ram) (m .queues) (readChannelPcmRegAnswer (m .chip) core ch offset)
+code m (writeChannelWavetable core ch at value) = by (writeChannelWavetableCalled (m .chip) core ch at value) (m .ram) (m .queues) []
+code m (readChannelWavetable core ch at) = onlyTells (m .chip) (m .ram) (m .queues) (readChannelWavetableAnswer (m .chip) core ch at)
+code m (wavetableLength core ch) = onlyTells (m .chip) (m .ram) (m .queues) (wavetableLengthAnswer (m .chip) core ch)
+code m (interpolates core ch) = onlyTells (m .chip) (m .ram) (m .queues) (interpolatesAnswer (m .chip) core ch)
 code m (writePcmRam address value) = by (writePcmRamCalled (m .chip) (length (m .ram)) address) (writePcmRamRam (m .chip) (m .ram) address value) (m .queues) []
 code m (readPcmRam address) = onlyTells (m .chip) (m .ram) (m .queues) (readPcmRamAnswer (m .chip) (m .ram) address)
-code m (generateSample ch) = sounded (generateSampleCalled (m .chip) (m .ram) (m .queues) ch) (m .ram) (m .queues) [] (sampleCallValues (m .chip) (m .ram) (m .queues) ch)
+code m (generateSample core ch) =
+    sounded (generateSampleCalled (m .chip) (m .ram) (m .queues) core ch) (m .ram) (m .queues) [] (sampleCallValues (m .chip) (m .ram) (m .queues) core ch)
 code m (clock n stems) =
     sounded (clockCalled (m .chip) (m .ram) (m .queues) n (length stems)) (m .ram) (m .queues) (clockStems (m .chip) (m .ram) (m .queues) n stems ∷ [])
     (clockCallValues (m .chip) (m .ram) (m .queues) n (length stems))
@@ -50,15 +52,15 @@ code m (clockMixed left right) =
 code m (clockMixedInto left right) =
     sounded (mixedCalled (m .chip) (m .ram) (m .queues) left right) (m .ram) (m .queues)
     (mixedLeft saturating (m .chip) (m .ram) (m .queues) left right ∷ mixedRight saturating (m .chip) (m .ram) (m .queues) left right ∷ [])
-    (mixedCallValues (m .chip) (m .ram) (m .queues) saturating left right)
+    (mixedCallValues (m .chip) (m .ram) (m .queues) left right)
 code m (clockMixedIntoI32 left right) =
     sounded (mixedI32Called (m .chip) (m .ram) (m .queues) left right) (m .ram) (m .queues)
     (mixedLeft wrapping (m .chip) (m .ram) (m .queues) left right ∷ mixedRight wrapping (m .chip) (m .ram) (m .queues) left right ∷ [])
-    (mixedCallValues (m .chip) (m .ram) (m .queues) wrapping left right)
+    (mixedCallValues (m .chip) (m .ram) (m .queues) left right)
 code m (writeHead out) =
     wroteBy (m .chip) (m .ram) (m .queues) (writeHeadAnswer (m .chip) (length (m .ram)) out) (writeHeadText (m .chip) (length (m .ram)) out)
 code m (readHead text) = readBy (readHeadCalled (m .chip) (length (m .ram)) text) (m .ram) (m .queues)
-code m (writeVoice ch out) = wroteBy (m .chip) (m .ram) (m .queues) (writeVoiceAnswer (m .chip) (m .queues) ch out) (writeVoiceText (m .chip) (m .queues) ch out)
+code m (writeVoice voice out) = wroteBy (m .chip) (m .ram) (m .queues) (writeVoiceAnswer (m .chip) (m .queues) voice out) (writeVoiceText (m .chip) (m .queues) voice out)
 code m (readVoice text) = readBy (readVoiceCalled (m .chip) (m .queues) text) (m .ram) (readVoiceQueues (m .chip) (m .queues) text)
 code m (readStoredVoice text) = readBy (readStoredVoiceCalled (m .chip) (m .queues) text) (m .ram) (readStoredVoiceQueues (m .chip) (m .queues) text)
 

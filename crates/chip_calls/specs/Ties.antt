@@ -5,7 +5,8 @@ use mathlib.Core.List.{List, []}
 use Prim.Native.Nat.{ℕ, _<_}
 use lib.IntN.{ℤ}
 use lib.ListN.{length}
-use Rattle.sizes.specs.Sizes.{numChannels, queueBuffer}
+use Rattle.sizes.specs.Sizes.{numChannels}
+use Rattle.cores.specs.Sizes.{numCores, chipQueues}
 use Rattle.tone.specs.Pcm.{isRamLength}
 use Rattle.registers.specs.PlainQueue.{FitEntries}
 use Rattle.voices.specs.Core.{channelAt}
@@ -16,34 +17,44 @@ use Rattle.s3w2.specs.declared.Called.{Called}
 use Rattle.s3w2.specs.declared.Answer.{Answer}
 use Rattle.s3w2.specs.declared.Answer.the-variants.{Done, Byte, Sample, Count, Flag, Ended, RamLength, QueueBuffer, NotAccepted, StemBuffer}
 use Rattle.s3w2.specs.Answers.{numberOf}
+use Rattle.s3w2.specs.Chips.{coreAt}
 use Rattle.session.specs.Answers.{numbersOf}
 use Rattle.session.specs.declared.LineAnswer.{LineAnswer}
 use Rattle.session.specs.declared.LineAnswer.the-variants as lines
 use Rattle.session.specs.declared.LineCalled.{LineCalled}
-use Rattle.slots.specs.Models.{SlotChip}
+use Rattle.slots.specs.Models.{SlotPair}
 use Rattle.plain_chip.specs.Good.{Bytes}
-use Rattle.slots.specs.Good.{FitChannel, SlotChipOk}
-use Rattle.chip_as_slots.specs.Whole.{slotChipOf}
+use Rattle.slots.specs.Good.{FitChannel, SlotPairOk}
+use Rattle.chip_as_slots.specs.Pairs.{pairWorld}
 use Rattle.call_lists.specs.Runs.{Outcome}
 use Rattle.call_lists.specs.Calls as list
 use Rattle.call_lists.specs.Calls.{Reply, done, byte, count, flag, sample, ended, refused}
 
 -- a chip with its lent RAM and queue buffer, as a world
-abbrev pub slotChip : Chip → List ℕ → List ℤ → SlotChip
-slotChip chip ram queues = slotChipOf (chip .version) (chip .core) ram queues
+abbrev pub slotPair : Chip → List ℕ → List ℤ → SlotPair
+slotPair chip ram queues = pairWorld (chip .version) (chip .cores) ram queues
+
+pub record SizedChip (chip : Chip) : Type 0 where
+  pub two : length (chip .cores) ≡ numCores
+  pub each : (k : ℕ) → k < numCores → SizedCore (coreAt chip k)
 
 -- the lengths that calls ask for, and a good world
 pub record GoodMachine (chip : Chip) (ram : List ℕ) (queues : List ℤ) : Type 0 where
   pub allowed : isRamLength (length ram) ≡ true
-  pub sized : SizedCore (chip .core)
-  pub long : length queues ≡ queueBuffer
-  pub good : SlotChipOk (slotChip chip ram queues)
+  pub sized : SizedChip chip
+  pub long : length queues ≡ chipQueues
+  pub good : SlotPairOk (slotPair chip ram queues)
 
--- what the types give a chip and a lent queue buffer
-pub record Typed (k : Core) (queues : List ℤ) : Type 0 where
+-- what the types give a core
+pub record TypedCore (k : Core) : Type 0 where
   pub sized : SizedCore k
   pub fits : (j : ℕ) → j < numChannels → FitChannel (channelAt k j)
   pub bytes : Bytes (k .wavetables)
+
+-- and a chip and a lent queue buffer
+pub record Typed (chip : Chip) (queues : List ℤ) : Type 0 where
+  pub two : length (chip .cores) ≡ numCores
+  pub cores : (k : ℕ) → k < numCores → TypedCore (coreAt chip k)
   pub entries : FitEntries queues
 
 -- ---- what a call leaves: chip, RAM and queue buffer
@@ -104,7 +115,7 @@ abbrev pub readBy : LineCalled → List ℕ → List ℤ → Outcome Machine lis
 readBy called ram queues = left (called .chip) ram queues (list.replies (lineReply (called .answer)))
 
 -- ---- the list's call leaves and answers the same, and the next call can be made
-pub record Tied (y : Outcome Machine list.CallAnswer) (x : Outcome SlotChip list.CallAnswer) : Type 0 where
-  pub next : slotChip (y .next .chip) (y .next .ram) (y .next .queues) ≡ x .next
+pub record Tied (y : Outcome Machine list.CallAnswer) (x : Outcome SlotPair list.CallAnswer) : Type 0 where
+  pub next : slotPair (y .next .chip) (y .next .ram) (y .next .queues) ≡ x .next
   pub answer : y .answer ≡ x .answer
   pub held : GoodMachine (y .next .chip) (y .next .ram) (y .next .queues)

@@ -1,38 +1,41 @@
--- The values ahead of the volume of a call's ticks, read off the states of its contract's own definitions. No call gives them; one that is
--- turned away has none.
-use mathlib.Core.Bool.{cond}
+-- The values ahead of the volume of a call's ticks, read off the states of its contract's own definitions: core 0's of the whole call, then
+-- core 1's. No call gives them; one that is turned away has none.
+use mathlib.Core.Bool.{cond, _&&_}
 use mathlib.Core.List.{List, [], _++_}
-use Prim.Native.Nat.{ℕ, zero, suc, min}
+use Prim.Native.Nat.{ℕ}
 use lib.Dec.{ltb}
 use lib.IntN.{ℤ}
 use lib.ListN.{length}
 use Rattle.sizes.specs.Sizes.{numChannels}
-use Rattle.version.specs.declared.SguVersion.{SguVersion}
-use Rattle.sides.specs.Sides.{saturating}
-use Rattle.frame_reports.specs.Values.{turnedValues, frameValues, framesValues}
+use Rattle.version.specs.Versions.{coreCount}
+use Rattle.frame_reports.specs.Values.{turnedValues, framesValues}
 use Rattle.s3w2.specs.declared.Chip.{Chip}
 use Rattle.s3w2.specs.Answers.{unless}
+use Rattle.s3w2.specs.Chips.{coreAt, coreQueues}
 use Rattle.s3w2.specs.Refusals.{soundRefusal, clockRefusal}
-use Rattle.s3w2.specs.Mixing.{Mix, mix, mixed, clearedTo, served}
-
--- n frames added to two sides
-unfoldable pub mixedValues : (ℤ → ℤ → ℤ) → SguVersion → List ℕ → List ℤ → ℕ → Mix → List ℤ
-mixedValues plus version ram queues zero m = []
-mixedValues plus version ram queues (suc n) m = mixedValues plus version ram queues n m ++ frameValues version ram queues (mixed plus version ram queues n m .core)
+use Rattle.s3w2.specs.Mixing.{clearedTo, served}
 
 module _ (chip : Chip) (ram : List ℕ) (queues : List ℤ) where
-  unfoldable pub sampleCallValues : ℕ → List ℤ
-  sampleCallValues ch = unless (soundRefusal chip (length ram) (length queues)) [] (cond (ltb ch numChannels) (turnedValues (chip .version) ram queues ch 1 1 (chip .core)) [])
+  -- one tick of a voice of core k; a core that the version lacks is not ticked
+  unfoldable pub sampleCallValues : ℕ → ℕ → List ℤ
+  sampleCallValues k ch =
+      unless (soundRefusal chip (length ram) (length queues)) []
+      (cond (ltb k (coreCount (chip .version)) && ltb ch numChannels) (turnedValues (chip .version) ram (coreQueues k queues) ch 1 1 (coreAt chip k)) [])
+
+  -- n frames of core k, and of both
+  abbrev pub coreValues : ℕ → ℕ → List ℤ
+  coreValues n k = cond (ltb k (coreCount (chip .version))) (framesValues (chip .version) ram (coreQueues k queues) n (coreAt chip k)) []
+
+  abbrev pub framedValues : ℕ → List ℤ
+  framedValues n = coreValues n 0 ++ coreValues n 1
 
   -- `stems` is the stem buffer's length
   unfoldable pub clockCallValues : ℕ → ℕ → List ℤ
-  clockCallValues n stems = unless (clockRefusal chip (length ram) (length queues) n stems) [] (framesValues (chip .version) ram queues n (chip .core))
+  clockCallValues n stems = unless (clockRefusal chip (length ram) (length queues) n stems) [] (framedValues n)
 
-  unfoldable pub mixedCallValues : (ℤ → ℤ → ℤ) → List ℤ → List ℤ → List ℤ
-  mixedCallValues plus left right =
-      unless (soundRefusal chip (length ram) (length queues)) [] (mixedValues plus (chip .version) ram queues (min (length left) (length right)) (mix (chip .core) left right))
+  -- frames mixed to two sides
+  unfoldable pub mixedCallValues : List ℤ → List ℤ → List ℤ
+  mixedCallValues left right = unless (soundRefusal chip (length ram) (length queues)) [] (framedValues (served left right))
 
   abbrev pub clockMixedCallValues : List ℤ → List ℤ → List ℤ
-  clockMixedCallValues left right =
-      let n = served chip ram queues left right in
-      mixedCallValues saturating (clearedTo n left) (clearedTo n right)
+  clockMixedCallValues left right = mixedCallValues (clearedTo (served left right) left) (clearedTo (served left right) right)

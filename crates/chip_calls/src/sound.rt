@@ -7,11 +7,11 @@ use s3w2::Called;
 use s3w2::Chip;
 
 // As `Chip::generate_sample`.
-pub fn generate_sample(chip: Chip, ram: &[u8], queues: &mut [i16], ch: usize) -> Called
-    ensures code { λ r. ⌜ AsCode (machine chip (now (ram .entry)) (now (queues .entry))) (list.generateSample ch) r (now (ram .entry))
+pub fn generate_sample(chip: Chip, ram: &[u8], queues: &mut [i16], core: usize, ch: usize) -> Called
+    ensures code { λ r. ⌜ AsCode (machine chip (now (ram .entry)) (now (queues .entry))) (list.generateSample core ch) r (now (ram .entry))
         (now (queues .exit)) [] ⌝ }
 {
-    chip.generate_sample(ram, queues, ch)
+    chip.generate_sample(ram, queues, core, ch)
 }
 
 // As `Chip::clock`.

@@ -25,35 +25,42 @@ pub fn set_version(chip: Chip, ram: &[u8], queues: &[i16], version: SguVersion) 
 }
 
 // As `Chip::reset_channel`.
-pub fn reset_channel(chip: Chip, ram: &[u8], queues: &[i16], ch: usize) -> Called
-    ensures code { λ r. ⌜ AsCode (machine chip (now (ram .entry)) (now (queues .entry))) (list.resetChannel ch) r (now (ram .entry))
+pub fn reset_channel(chip: Chip, ram: &[u8], queues: &[i16], core: usize, ch: usize) -> Called
+    ensures code { λ r. ⌜ AsCode (machine chip (now (ram .entry)) (now (queues .entry))) (list.resetChannel core ch) r (now (ram .entry))
         (now (queues .entry)) [] ⌝ }
 {
-    chip.reset_channel(ch)
+    chip.reset_channel(core, ch)
 }
 
 // As `Chip::write_register`.
-pub fn write_register(chip: Chip, ram: &[u8], queues: &mut [i16], address: u32, value: u8) -> Called
-    ensures code { λ r. ⌜ AsCode (machine chip (now (ram .entry)) (now (queues .entry))) (list.writeRegister address value) r (now (ram .entry))
+pub fn write_register(
+    chip: Chip,
+    ram: &[u8],
+    queues: &mut [i16],
+    core: usize,
+    address: u32,
+    value: u8,
+) -> Called
+    ensures code { λ r. ⌜ AsCode (machine chip (now (ram .entry)) (now (queues .entry))) (list.writeRegister core address value) r (now (ram .entry))
         (now (queues .exit)) [] ⌝ }
 {
-    chip.write_register(queues, address, value)
+    chip.write_register(queues, core, address, value)
 }
 
 // As `Chip::read_register`.
-pub fn read_register(chip: Chip, ram: &[u8], queues: &[i16], address: u32) -> Called
-    ensures code { λ r. ⌜ AsCode (machine chip (now (ram .entry)) (now (queues .entry))) (list.readRegister address) r (now (ram .entry))
+pub fn read_register(chip: Chip, ram: &[u8], queues: &[i16], core: usize, address: u32) -> Called
+    ensures code { λ r. ⌜ AsCode (machine chip (now (ram .entry)) (now (queues .entry))) (list.readRegister core address) r (now (ram .entry))
         (now (queues .entry)) [] ⌝ }
 {
-    chip.read_register(address)
+    chip.read_register(core, address)
 }
 
 // As `Chip::peek_register`.
-pub fn peek_register(chip: Chip, ram: &[u8], queues: &[i16], address: u32) -> Answer
-    ensures code { λ r. ⌜ AsCode (machine chip (now (ram .entry)) (now (queues .entry))) (list.peekRegister address) (answered chip r)
+pub fn peek_register(chip: Chip, ram: &[u8], queues: &[i16], core: usize, address: u32) -> Answer
+    ensures code { λ r. ⌜ AsCode (machine chip (now (ram .entry)) (now (queues .entry))) (list.peekRegister core address) (answered chip r)
         (now (ram .entry)) (now (queues .entry)) [] ⌝ }
 {
-    chip.peek_register(address)
+    chip.peek_register(core, address)
 }
 
 // As `Chip::write_channel_control`.
@@ -61,22 +68,30 @@ pub fn write_channel_control(
     chip: Chip,
     ram: &[u8],
     queues: &mut [i16],
+    core: usize,
     ch: usize,
     offset: u8,
     value: u8,
 ) -> Called
-    ensures code { λ r. ⌜ AsCode (machine chip (now (ram .entry)) (now (queues .entry))) (list.writeChannelControl ch offset value) r
+    ensures code { λ r. ⌜ AsCode (machine chip (now (ram .entry)) (now (queues .entry))) (list.writeChannelControl core ch offset value) r
         (now (ram .entry)) (now (queues .exit)) [] ⌝ }
 {
-    chip.write_channel_control(queues, ch, offset, value)
+    chip.write_channel_control(queues, core, ch, offset, value)
 }
 
 // As `Chip::read_channel_control`.
-pub fn read_channel_control(chip: Chip, ram: &[u8], queues: &[i16], ch: usize, offset: u8) -> Called
-    ensures code { λ r. ⌜ AsCode (machine chip (now (ram .entry)) (now (queues .entry))) (list.readChannelControl ch offset) r (now (ram .entry))
+pub fn read_channel_control(
+    chip: Chip,
+    ram: &[u8],
+    queues: &[i16],
+    core: usize,
+    ch: usize,
+    offset: u8,
+) -> Called
+    ensures code { λ r. ⌜ AsCode (machine chip (now (ram .entry)) (now (queues .entry))) (list.readChannelControl core ch offset) r (now (ram .entry))
         (now (queues .entry)) [] ⌝ }
 {
-    chip.read_channel_control(ch, offset)
+    chip.read_channel_control(core, ch, offset)
 }
 
 // As `Chip::write_channel_pcm_reg`.
@@ -84,22 +99,30 @@ pub fn write_channel_pcm_reg(
     chip: Chip,
     ram: &[u8],
     queues: &[i16],
+    core: usize,
     ch: usize,
     offset: u8,
     value: u8,
 ) -> Called
-    ensures code { λ r. ⌜ AsCode (machine chip (now (ram .entry)) (now (queues .entry))) (list.writeChannelPcmReg ch offset value) r
+    ensures code { λ r. ⌜ AsCode (machine chip (now (ram .entry)) (now (queues .entry))) (list.writeChannelPcmReg core ch offset value) r
         (now (ram .entry)) (now (queues .entry)) [] ⌝ }
 {
-    chip.write_channel_pcm_reg(ch, offset, value)
+    chip.write_channel_pcm_reg(core, ch, offset, value)
 }
 
 // As `Chip::read_channel_pcm_reg`.
-pub fn read_channel_pcm_reg(chip: Chip, ram: &[u8], queues: &[i16], ch: usize, offset: u8) -> Answer
-    ensures code { λ r. ⌜ AsCode (machine chip (now (ram .entry)) (now (queues .entry))) (list.readChannelPcmReg ch offset) (answered chip r)
+pub fn read_channel_pcm_reg(
+    chip: Chip,
+    ram: &[u8],
+    queues: &[i16],
+    core: usize,
+    ch: usize,
+    offset: u8,
+) -> Answer
+    ensures code { λ r. ⌜ AsCode (machine chip (now (ram .entry)) (now (queues .entry))) (list.readChannelPcmReg core ch offset) (answered chip r)
         (now (ram .entry)) (now (queues .entry)) [] ⌝ }
 {
-    chip.read_channel_pcm_reg(ch, offset)
+    chip.read_channel_pcm_reg(core, ch, offset)
 }
 
 // As `Chip::write_channel_wavetable`.
@@ -107,14 +130,15 @@ pub fn write_channel_wavetable(
     chip: Chip,
     ram: &[u8],
     queues: &[i16],
+    core: usize,
     ch: usize,
     offset: u8,
     value: u8,
 ) -> Called
-    ensures code { λ r. ⌜ AsCode (machine chip (now (ram .entry)) (now (queues .entry))) (list.writeChannelWavetable ch offset value) r
+    ensures code { λ r. ⌜ AsCode (machine chip (now (ram .entry)) (now (queues .entry))) (list.writeChannelWavetable core ch offset value) r
         (now (ram .entry)) (now (queues .entry)) [] ⌝ }
 {
-    chip.write_channel_wavetable(ch, offset, value)
+    chip.write_channel_wavetable(core, ch, offset, value)
 }
 
 // As `Chip::read_channel_wavetable`.
@@ -122,29 +146,30 @@ pub fn read_channel_wavetable(
     chip: Chip,
     ram: &[u8],
     queues: &[i16],
+    core: usize,
     ch: usize,
     offset: u8,
 ) -> Answer
-    ensures code { λ r. ⌜ AsCode (machine chip (now (ram .entry)) (now (queues .entry))) (list.readChannelWavetable ch offset) (answered chip r)
+    ensures code { λ r. ⌜ AsCode (machine chip (now (ram .entry)) (now (queues .entry))) (list.readChannelWavetable core ch offset) (answered chip r)
         (now (ram .entry)) (now (queues .entry)) [] ⌝ }
 {
-    chip.read_channel_wavetable(ch, offset)
+    chip.read_channel_wavetable(core, ch, offset)
 }
 
 // As `Chip::wavetable_length`.
-pub fn wavetable_length(chip: Chip, ram: &[u8], queues: &[i16], ch: usize) -> Answer
-    ensures code { λ r. ⌜ AsCode (machine chip (now (ram .entry)) (now (queues .entry))) (list.wavetableLength ch) (answered chip r)
+pub fn wavetable_length(chip: Chip, ram: &[u8], queues: &[i16], core: usize, ch: usize) -> Answer
+    ensures code { λ r. ⌜ AsCode (machine chip (now (ram .entry)) (now (queues .entry))) (list.wavetableLength core ch) (answered chip r)
         (now (ram .entry)) (now (queues .entry)) [] ⌝ }
 {
-    chip.wavetable_length(ch)
+    chip.wavetable_length(core, ch)
 }
 
 // As `Chip::interpolates`.
-pub fn interpolates(chip: Chip, ram: &[u8], queues: &[i16], ch: usize) -> Answer
-    ensures code { λ r. ⌜ AsCode (machine chip (now (ram .entry)) (now (queues .entry))) (list.interpolates ch) (answered chip r)
+pub fn interpolates(chip: Chip, ram: &[u8], queues: &[i16], core: usize, ch: usize) -> Answer
+    ensures code { λ r. ⌜ AsCode (machine chip (now (ram .entry)) (now (queues .entry))) (list.interpolates core ch) (answered chip r)
         (now (ram .entry)) (now (queues .entry)) [] ⌝ }
 {
-    chip.interpolates(ch)
+    chip.interpolates(core, ch)
 }
 
 // As `Chip::write_pcm_ram`.

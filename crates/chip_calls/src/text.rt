@@ -23,11 +23,17 @@ pub fn read_head(chip: Chip, ram: &[u8], queues: &[i16], text: &[u8]) -> LineCal
 }
 
 // As `session::write_voice`.
-pub fn write_voice(chip: Chip, ram: &[u8], queues: &[i16], ch: usize, out: &mut [u8]) -> LineAnswer
-    ensures code { λ r. ⌜ AsWritten (machine chip (now (ram .entry)) (now (queues .entry))) (list.writeVoice ch (now (out .entry))) r
+pub fn write_voice(
+    chip: Chip,
+    ram: &[u8],
+    queues: &[i16],
+    voice: usize,
+    out: &mut [u8],
+) -> LineAnswer
+    ensures code { λ r. ⌜ AsWritten (machine chip (now (ram .entry)) (now (queues .entry))) (list.writeVoice voice (now (out .entry))) r
         (now (out .exit)) ⌝ }
 {
-    session::write_voice(chip, queues, ch, out)
+    session::write_voice(chip, queues, voice, out)
 }
 
 // As `session::read_voice`.

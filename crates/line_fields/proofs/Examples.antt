@@ -1,6 +1,6 @@
 -- What is decided of ambiguous fields, computed on the definitions. Assumes nothing.
 use mathlib.Core.Path.{_≡_, refl}
-use mathlib.Core.Bool.{true}
+use mathlib.Core.Bool.{Bool, true}
 use mathlib.Core.List.{[], _∷_}
 use Rattle.decimal.specs.Read.{naturalAt, numberAt}
 use Rattle.line_fields.specs.Table.{isSample, mostOf}
@@ -16,6 +16,15 @@ three-x = refl
 missing : partAt true 1 (51 ∷ []) 1 ≡ Malformed 2
 unfolding partAt endsAt
 missing = refl
+
+-- `15` names a voice in every version, `16` in none: number 1
+last-voice : (fifo : Bool) → fieldAt fifo 0 (49 ∷ 53 ∷ 44 ∷ []) 0 ≡ At 15 2
+unfolding fieldAt isSample mostOf naturalAt
+last-voice fifo = refl
+
+past-voices : (fifo : Bool) → fieldAt fifo 0 (49 ∷ 54 ∷ 44 ∷ []) 0 ≡ Malformed 1
+unfolding fieldAt isSample mostOf naturalAt
+past-voices fifo = refl
 
 -- `-0`, of field 0 and of a sample (field 19, its number 20)
 minus-zero : fieldAt true 0 (45 ∷ 48 ∷ 44 ∷ []) 0 ≡ Malformed 1

@@ -1,4 +1,4 @@
--- A line has at most 15,512 bytes. Assumes nothing.
+-- A line has at most 15,513 bytes. Assumes nothing.
 use mathlib.Core.Path.{_≡_, refl, ap, _∙_}
 use mathlib.Core.Bool.{Bool, true, false, cond}
 use mathlib.Core.List.{List, [], _∷_, _++_}
@@ -79,15 +79,15 @@ widths-samples fifo k zero h = omega arith
 widths-samples fifo k (suc n) h =
     rw (other-sample k (λ e. omega arith) (λ e. omega arith), le-leb 282 k h) (omega (arith, widths-samples fifo (suc k) n (omega arith)))
 
-widths-fixed : (fifo : Bool) → widths fifo 0 282 ≡ 1176
+widths-fixed : (fifo : Bool) → widths fifo 0 282 ≡ 1177
 unfolding widths widest places isSample mostOf
 widths-fixed true = refl
 widths-fixed false = refl
 
 -- 281 fields, the count and at most 2,048 samples
-pub line-most : (fifo : Bool) (xs : List ℕ) (n : ℕ) (ys : List ℕ) → length xs ≡ 281 → length ys ≡ n → n ≤ fifoCapacity → Within fifo 0 (xs ++ (n ∷ ys)) → length (lineText (xs ++ (n ∷ ys))) ≤ 15512
+pub line-most : (fifo : Bool) (xs : List ℕ) (n : ℕ) (ys : List ℕ) → length xs ≡ 281 → length ys ≡ n → n ≤ fifoCapacity → Within fifo 0 (xs ++ (n ∷ ys)) → length (lineText (xs ++ (n ∷ ys))) ≤ 15513
 line-most fifo [] n ys l m h w = absurd (omega arith)
 line-most fifo (x ∷ xs) n ys l m h w =
     let all : length ((x ∷ xs) ++ (n ∷ ys)) ≡ 282 + n = length-append (x ∷ xs) (n ∷ ys) ∙ omega arith in
-    let sum : widths fifo 0 (282 + n) ≡ 1176 + 7 * n = widths-add fifo 0 282 n ∙ omega (arith, widths-fixed fifo, widths-samples fifo 282 n (omega arith)) in
+    let sum : widths fifo 0 (282 + n) ≡ 1177 + 7 * n = widths-add fifo 0 282 n ∙ omega (arith, widths-fixed fifo, widths-samples fifo 282 n (omega arith)) in
     omega (arith, line-size fifo x (xs ++ (n ∷ ys)) w, ap (widths fifo 0) all ∙ sum)

@@ -1,13 +1,14 @@
 -- The fields of a voice line, counted from 0. Each is a number; a sample's number is its 16 bits.
 use mathlib.Core.Bool.{Bool, true, cond}
 use mathlib.Core.List.{List, [], _∷_}
-use Prim.Native.Nat.{ℕ, _%_}
+use Prim.Native.Nat.{ℕ, _-_, _%_}
 use lib.Dec.{eqb, leb, ltb}
 use lib.IntN.{ℤ}
 use lib.ListN.{getD}
 use mir.Syntax.{w16}
 use mir.Val.{toZ}
 use Rattle.sizes.specs.Sizes.{fifoCapacity}
+use Rattle.cores.specs.Sizes.{chipVoices}
 
 -- 25 registers and parts of the state, 256 wavetable bytes, the queue's count, and at most 2,048 samples
 abbrev pub states : ℕ
@@ -30,12 +31,12 @@ isSample k = cond (eqb k 19) true (cond (eqb k 21) true (leb fixed k))
 unfoldable pub sampleOfNumber : ℕ → ℤ
 sampleOfNumber n = toZ w16 (n % 65536)
 
--- channel, frequency, waveform, volume, panpot, modulation type, target, mode, param 1, param 2,
+-- voice, frequency, waveform, volume, panpot, modulation type, target, mode, param 1, param 2,
 -- start, end, loop, PCM control, sample control, active,
 -- phase, old phase, LFSR, last sample, slew, held, hold, sub-tick, latch
 abbrev pub mosts : List ℕ
 mosts =
-    7 ∷ 65535 ∷ 5 ∷ 255 ∷ 255 ∷ 6 ∷ 7 ∷ 1 ∷ 65535 ∷ 65535
+    (chipVoices - 1) ∷ 65535 ∷ 5 ∷ 255 ∷ 255 ∷ 6 ∷ 7 ∷ 1 ∷ 65535 ∷ 65535
     ∷ 16777215 ∷ 16777215 ∷ 16777215 ∷ 255 ∷ 7 ∷ 1
     ∷ 18446744073709551615 ∷ 34359738367 ∷ 4294967295 ∷ 65535 ∷ 65280 ∷ 65535 ∷ 65535 ∷ 3 ∷ 255 ∷ []
 

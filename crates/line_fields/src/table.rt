@@ -2,11 +2,12 @@
 ghost use mathlib.Core.Path.{_≡_};
 ghost use lib.ListN.{getD, set};
 ghost use Rattle.line_fields.specs.Table.{isSample, mostOf, sampleOfNumber};
+use cores::CHIP_VOICES;
 use sizes::FIFO_CAPACITY;
 
 // The greatest number of each of the first 25 fields.
 const MOST: [u64; 25] = [
-    7,
+    CHIP_VOICES as u64 - 1,
     0xFFFF,
     5,
     0xFF,

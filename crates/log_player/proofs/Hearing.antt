@@ -1,26 +1,27 @@
--- A list of calls is its lines, one after the other: the chip, the RAM and the queue buffer are theirs, and so are the bytes that it has read and the sides that its stems add up to. Assumes
--- nothing.
-use mathlib.Core.Path.{_≡_, refl, sym, ap, ap₂, _∙_, subst}
+-- A list of calls is its lines, one after the other: the chip, the RAM and the queue buffer are theirs, and so are the bytes that it has read and the sides that the stems of both cores add up to.
+-- Assumes nothing.
+use mathlib.Core.Path.{_≡_, refl, sym, ap, _∙_}
 use mathlib.Core.Bool.{Bool, true, false, cond}
-use mathlib.Core.List.{List, [], _∷_}
-use Prim.Native.Nat.{ℕ, zero, suc, _+_, _*_, _-_, _≤_, _<_, min}
+use mathlib.Core.List.{List}
+use Prim.Native.Nat.{ℕ, _+_, _*_, _≤_, _<_, min}
 use native.Mathlib.Decide.{decLt}
 use native.Mathlib.Omega.{arith}
-use lib.Dec.{eqb}
-use lib.IntN.{ℤ, pos, _+ℤ_}
-use lib.ListN.{length, length-set, length-take, length-drop, length-replicate, drop, getD, set, replicate, List·getD-eq-default}
-use lib.Seq.{sets, length-sets, getD-set-same, getD-set-other, getD-take, getD-drop}
+use lib.Dec.{eqb, ltb}
+use lib.IntN.{ℤ, pos}
+use lib.ListN.{length, length-set, length-replicate, getD, List·getD-eq-default}
+use lib.Seq.{sets, length-sets, getD-set-other}
 use borrow.Author.Tests.{eq-eqb}
-use Rattle.sizes.specs.Sizes.{numChannels, queueBuffer, stemsPerFrame}
+use Rattle.sizes.specs.Sizes.{stemsPerFrame}
+use Rattle.cores.specs.Sizes.{chipQueues, chipStems}
 use Rattle.num.specs.Lists.{part}
 use Rattle.tone.specs.Pcm.{isRamLength}
-use Rattle.sides.specs.Sides.{sideSum, addedTo, wrapping}
+use Rattle.version.specs.Versions.{coreCount}
+use Rattle.sides.specs.Sides.{sideOf, addedTo, wrapping}
 use Rattle.sides.proofs.Added.{added-length}
 use Rattle.frames.specs.declared.Asked.{Asked}
 use Rattle.frames.specs.declared.Asked.the-variants as asked
 use Rattle.frames.specs.Listing.{readRegisterKind, clockedAs}
-use Rattle.frames.specs.Turning.{Turns, frames}
-use Rattle.frames.proofs.Counts.{zero-add}
+use Rattle.frames.specs.Turning.{frames}
 use Rattle.frames.proofs.Framing.{frames-long}
 use Rattle.s3w2.specs.declared.Answer.{Answer}
 use Rattle.s3w2.specs.declared.Answer.the-variants.{Ended}
@@ -28,101 +29,32 @@ use Rattle.s3w2.specs.declared.Called.{Called}
 use Rattle.s3w2.specs.declared.Chip.{Chip}
 use Rattle.s3w2.specs.Answers.{isDone, unless, answered, byteAnswered}
 use Rattle.s3w2.specs.Refusals.{refusal, acceptsChip, soundRefusal, clockRefusal}
-use Rattle.s3w2.specs.Chips.{withCore}
+use Rattle.s3w2.specs.Chips.{coreAt, coreQueues}
 use Rattle.s3w2.specs.Registers.{readRegisterCalled, peekRegisterAnswer}
-use Rattle.s3w2.specs.Sound.{framedEnded, clockCalled, clockStems}
-use Rattle.s3w2.specs.Mixing.{Mix, mix, mixed, mixedSides, mixedAnswered, mixedLeft, mixedRight, mixedI32Called}
-use Rattle.s3w2.specs.Plays.{Playing, shownBy, ownStems, clockPlayed, callPlayed}
-use Rattle.s3w2.proofs.Chunks.{chunk, mixed-chunk}
+use Rattle.s3w2.specs.Sound.{silentTurns, coreFrames, framed, framedEnded, clockCalled}
+use Rattle.s3w2.specs.Mixing.{served, mixedSide, mixedAnswered, mixedLeft, mixedRight, mixedI32Called}
+use Rattle.chip_lists.specs.Plays.{Playing, shownBy, clockPlayed, callPlayed}
 use Rattle.log.specs.declared.Line.the-variants.{Write, WriteRam, Read, Peek, Clock}
 use Rattle.log.specs.Texts.{frameLines, readBackLine, peakOf}
 use Rattle.log_player.specs.Worlds.{World, world}
 use Rattle.log_player.specs.Applied.{leftSide, rightSide, clockedText, clockedPlayer, silent, Effect, effectOf}
 use Rattle.log_player.specs.Batches.{lineAs, shownAs}
-use Rattle.log_player.proofs.Overs.{wraps-not, nothing, sideOf, handOf}
+use Rattle.log_player.proofs.Places.{sets-below, sets-above, zeros, part-long, part-at, side-none, added-zeros}
+use Rattle.log_player.proofs.Overs.{wraps-not}
 
--- ---- values put one after the other
-module _ {A : Type 0} (d : A) where
-  pub sets-below : (vs l : List A) (i k : ℕ) → k < i → getD (sets l i vs) k d ≡ getD l k d
-  sets-below [] l i k h = refl
-  sets-below (v ∷ vs) l i k h = sets-below vs (set l i v) (suc i) k (omega arith) ∙ getD-set-other l i k v d (λ e. absurd (omega arith))
+-- ---- core 1, or core 0: its number, and its stem buffer
+abbrev pub coreOf : Bool → ℕ
+coreOf true = 1
+coreOf false = 0
 
-  pub sets-above : (vs l : List A) (i k : ℕ) → i + length vs ≤ k → getD (sets l i vs) k d ≡ getD l k d
-  sets-above [] l i k h = refl
-  sets-above (v ∷ vs) l i k h = sets-above vs (set l i v) (suc i) k (omega arith) ∙ getD-set-other l i k v d (λ e. absurd (omega arith))
+abbrev pub bufferOf : Bool → Playing → List ℤ
+bufferOf true p = p .others
+bufferOf false p = p .stems
 
-  pub sets-at : (vs l : List A) (i k : ℕ) → k < length vs → i + length vs ≤ length l → getD (sets l i vs) (i + k) d ≡ getD vs k d
-  sets-at [] l i k h r = absurd (omega arith)
-  sets-at (v ∷ vs) l i zero h r =
-      let e : i + 0 ≡ i = omega arith in
-      ap (λ (j : ℕ). getD (sets (set l i v) (suc i) vs) j d) e ∙ sets-below vs (set l i v) (suc i) i (omega arith) ∙ getD-set-same l i v d (omega arith)
-  sets-at (v ∷ vs) l i (suc k) h r =
-      let e : i + suc k ≡ suc i + k = omega arith in
-      ap (λ (j : ℕ). getD (sets (set l i v) (suc i) vs) j d) e ∙ sets-at vs (set l i v) (suc i) k (omega arith) (omega (arith, r, length-set l i v))
-
-pub zeros : (n i : ℕ) → getD (replicate n (pos 0)) i (pos 0) ≡ pos 0
-zeros zero i = refl
-zeros (suc n) zero = refl
-zeros (suc n) (suc i) = zeros n i
-
-pub part-long : (l : List ℤ) (from n : ℕ) → from + n ≤ length l → length (part l from n) ≡ n
-part-long l from n h = simp (length-take, length-drop) (omega arith)
-
-pub part-at : (l : List ℤ) (from n i : ℕ) → i < n → getD (part l from n) i (pos 0) ≡ getD l (from + i) (pos 0)
-part-at l from n i h = getD-take n (drop from l) i (pos 0) h ∙ getD-drop from l i (pos 0)
-
--- ---- stems added to a side
-module _ (plus : ℤ → ℤ → ℤ) (stems : List ℤ) (hand first : ℕ) (side : List ℤ) where
-  abbrev with-frames : ℕ → List ℤ
-  with-frames n = addedTo plus n stems hand first side
-
-  abbrev sum : ℕ → ℤ
-  sum n = sideSum numChannels stems (stemsPerFrame * n + hand)
-
-  added-ahead : (n i : ℕ) → n ≤ i → getD (with-frames n) (first + i) (pos 0) ≡ getD side (first + i) (pos 0)
-  unfolding addedTo
-  added-ahead zero i h = refl
-  added-ahead (suc n) i h =
-      let l = with-frames n in
-      getD-set-other l (first + n) (first + i) (plus (getD l (first + n) (pos 0)) (sum n)) (pos 0) (λ e. absurd (omega arith)) ∙ added-ahead n i (omega arith)
-
-  pub added-at : (n i : ℕ) → i < n → first + n ≤ length side → getD (addedTo plus n stems hand first side) (first + i) (pos 0) ≡ plus (getD side (first + i) (pos 0)) (sideSum numChannels stems (stemsPerFrame * i + hand))
-  unfolding addedTo
-  added-at zero i h k = absurd (omega arith)
-  added-at (suc n) i h k = step n i h k (λ y. added-at n i y (omega arith))
-    where
-      step : (n i : ℕ) → i < suc n → first + suc n ≤ length side → (i < n → getD (with-frames n) (first + i) (pos 0) ≡ plus (getD side (first + i) (pos 0)) (sum i))
-          → getD (set (with-frames n) (first + n) (plus (getD (with-frames n) (first + n) (pos 0)) (sum n))) (first + i) (pos 0) ≡ plus (getD side (first + i) (pos 0)) (sum i)
-      step n i h k ih =
-          let l = with-frames n in
-          let v = plus (getD l (first + n) (pos 0)) (sum n) in
-          let here : getD (set l (first + n) v) (first + n) (pos 0) ≡ plus (getD side (first + n) (pos 0)) (sum n) =
-          getD-set-same l (first + n) v (pos 0) (omega (arith, k, added-length plus stems hand first side n)) ∙ ap (λ (x : ℤ). plus x (sum n)) (added-ahead n n (omega arith)) in
-          elim (decLt i n) [
-            | yes y ↦ getD-set-other l (first + n) (first + i) v (pos 0) (λ e. absurd (omega arith)) ∙ ih y
-            | no y ↦ subst (λ (j : ℕ). getD (set l (first + n) v) (first + j) (pos 0) ≡ plus (getD side (first + j) (pos 0)) (sum j)) (last n i h y) here
-          ]
-        where
-          last : (n i : ℕ) → i < suc n → (i < n → ⊥) → n ≡ i
-          last n i h y = omega arith
-
-pub sum-same : (n : ℕ) (stems other : List ℤ) (from at : ℕ) → ((m : ℕ) → m < n → getD stems (from + 2 * m) (pos 0) ≡ getD other (at + 2 * m) (pos 0)) → sideSum n stems from ≡ sideSum n other at
-unfolding sideSum
-sum-same zero stems other from at h = refl
-sum-same (suc n) stems other from at h = ap₂ (λ (x y : ℤ). x +ℤ y) (sum-same n stems other from at (λ m l. h m (omega arith))) (h n (omega arith))
-
-sum-none : (n : ℕ) (stems : List ℤ) (from : ℕ) → ((k : ℕ) → getD stems k (pos 0) ≡ pos 0) → sideSum n stems from ≡ pos 0
-unfolding sideSum
-sum-none zero stems from h = refl
-sum-none (suc n) stems from h = ap₂ (λ (x y : ℤ). x +ℤ y) (sum-none n stems from h) (h (from + 2 * n))
-
--- ---- one clock, of n frames, over a stem buffer of zeros
-module _ (chip : Chip) (ram : List ℕ) (queues : List ℤ) (n : ℕ) (few : n ≤ 1000) (own : List ℤ) (silence : (k : ℕ) → getD own k (pos 0) ≡ pos 0) (long : length own ≡ stemsPerFrame * n) where
+-- ---- one clock, of n frames
+module _ (chip : Chip) (ram : List ℕ) (queues : List ℤ) (n : ℕ) (few : n ≤ 1000) where
   abbrev z : List ℤ
   z = silent n
-
-  abbrev made : Turns
-  made = frames (chip .version) ram queues n (chip .core)
 
   abbrev done : Bool
   done = isDone (soundRefusal chip (length ram) (length queues))
@@ -130,156 +62,173 @@ module _ (chip : Chip) (ram : List ℕ) (queues : List ℤ) (n : ℕ) (few : n �
   as-many : length z ≡ n
   as-many = length-replicate (min n 1000) (pos 0) ∙ omega arith
 
-  mixed-is : mixedSides wrapping chip ram queues z z ≡ chunk (chip .version) ram queues wrapping 0 n (mix (chip .core) z z)
-  unfolding mixed
-  mixed-is =
-      let e : min (length z) (length z) ≡ 0 + n = omega (arith, as-many) in
-      ap (λ (k : ℕ). mixed wrapping (chip .version) ram queues k (mix (chip .core) z z)) e ∙ mixed-chunk (chip .version) ram queues wrapping 0 (mix (chip .core) z z) n
+  all-served : served z z ≡ n
+  all-served = omega (arith, as-many)
 
-  same-refusal : clockRefusal chip (length ram) (length queues) n (length own) ≡ soundRefusal chip (length ram) (length queues)
-  same-refusal =
-      ap (refusal (isRamLength (length ram)) (eqb (length queues) queueBuffer) (acceptsChip chip (length ram))) (eq-eqb (length own) (stemsPerFrame * n) long)
+  -- the stems of a core over what its buffer held
+  abbrev pub givenBy : Bool → List ℤ → List ℤ
+  givenBy second own = unless (soundRefusal chip (length ram) (length queues)) own (coreFrames chip ram queues n (coreOf second) .stems)
 
-  stems-are : clockStems chip ram queues n own ≡ cond done (made .stems) own
-  unfolding clockStems
-  stems-are = ap (λ (r : Answer). unless r own (made .stems)) same-refusal
-
-  pub stems-long : length (clockStems chip ram queues n own) ≡ stemsPerFrame * n
-  stems-long = ap length stems-are ∙ go done
+  core-long : (k : ℕ) → length (coreFrames chip ram queues n k .stems) ≡ stemsPerFrame * n
+  core-long k = go (ltb k (coreCount (chip .version)))
     where
-      go : (b : Bool) → length (cond b (made .stems) own) ≡ stemsPerFrame * n
-      go true = frames-long (chip .version) ram queues (chip .core) n
-      go false = long
+      go : (b : Bool) → length (cond b (frames (chip .version) ram (coreQueues k queues) n (coreAt chip k)) (silentTurns n (coreAt chip k)) .stems) ≡ stemsPerFrame * n
+      go true = frames-long (chip .version) ram (coreQueues k queues) (coreAt chip k) n
+      go false = length-replicate (stemsPerFrame * n) (pos 0)
+
+  pub given-long : (second : Bool) (own : List ℤ) → length own ≡ stemsPerFrame * n → length (givenBy second own) ≡ stemsPerFrame * n
+  given-long second own e = go done
+    where
+      go : (b : Bool) → length (cond b (coreFrames chip ram queues n (coreOf second) .stems) own) ≡ stemsPerFrame * n
+      go true = core-long (coreOf second)
+      go false = e
+
+  same-refusal : clockRefusal chip (length ram) (length queues) n (chipStems * n) ≡ soundRefusal chip (length ram) (length queues)
+  same-refusal = ap (refusal (isRamLength (length ram)) (eqb (length queues) chipQueues) (acceptsChip chip (length ram))) (eq-eqb (chipStems * n) (chipStems * n) refl)
 
   either-chip : (b : Bool) (x y : Called) (r t : Answer) → x .chip ≡ y .chip → cond b x (answered chip r) .chip ≡ cond b y (answered chip t) .chip
   either-chip true x y r t e = e
   either-chip false x y r t e = refl
 
-  pub clock-chip : clockCalled chip ram queues n (length own) .chip ≡ mixedI32Called chip ram queues (silent n) (silent n) .chip
+  pub clock-chip : clockCalled chip ram queues n (chipStems * n) .chip ≡ mixedI32Called chip ram queues (silent n) (silent n) .chip
   unfolding clockCalled mixedAnswered
   clock-chip =
       let no = soundRefusal chip (length ram) (length queues) in
       let given = Ended (framedEnded chip ram queues n) in
-      let heard = Ended (framedEnded chip ram queues (min (length z) (length z))) in
-      ap (λ (r : Answer). unless r (answered chip r) (answered (withCore chip (made .core)) given) .chip) same-refusal
-      ∙ either-chip done (answered (withCore chip (made .core)) given) (answered (withCore chip (mixedSides wrapping chip ram queues z z .core)) heard) no no (ap (λ (m : Mix). withCore chip (m .core)) (sym mixed-is))
+      let heard = Ended (framedEnded chip ram queues (served z z)) in
+      ap (λ (r : Answer). unless r (answered chip r) (answered (framed chip ram queues n) given) .chip) same-refusal
+      ∙ either-chip done (answered (framed chip ram queues n) given) (answered (framed chip ram queues (served z z)) heard) no no (ap (framed chip ram queues) (sym all-served))
 
-  -- the left side, or the right one
-  abbrev pub heardSide : Bool → List ℤ
-  heardSide true = rightSide chip ram queues (silent n) (silent n)
-  heardSide false = leftSide chip ram queues (silent n) (silent n)
+  -- the left side (hand 0), or the right one (hand 1)
+  abbrev pub heardSide : ℕ → List ℤ
+  heardSide hand = unless (soundRefusal chip (length ram) (length queues)) (silent n) (mixedSide wrapping chip ram queues (silent n) (silent n) hand (silent n))
 
-  module _ (right : Bool) where
-    heard-is : heardSide right ≡ cond done (sideOf right (chunk (chip .version) ram queues wrapping 0 n (mix (chip .core) z z))) z
-    unfolding mixedLeft mixedRight
-    heard-is = go right ∙ ap (λ (m : Mix). cond done (sideOf right m) z) mixed-is
+  pub heard-left : leftSide chip ram queues (silent n) (silent n) ≡ heardSide 0
+  unfolding mixedLeft
+  heard-left = refl
+
+  pub heard-right : rightSide chip ram queues (silent n) (silent n) ≡ heardSide 1
+  unfolding mixedRight
+  heard-right = refl
+
+  module _ (hand : ℕ) where
+    abbrev sides : ℕ → List ℤ
+    sides m = addedTo wrapping m (coreFrames chip ram queues m 0 .stems) (coreFrames chip ram queues m 1 .stems) hand 0 z
+
+    pub heard-long : length (heardSide hand) ≡ n
+    heard-long = go done
       where
-        go : (right : Bool) → heardSide right ≡ cond done (sideOf right (mixedSides wrapping chip ram queues z z)) z
-        go true = refl
-        go false = refl
-
-    added-is : (right : Bool) → sideOf right (chunk (chip .version) ram queues wrapping 0 n (mix (chip .core) z z)) ≡ addedTo wrapping n (made .stems) (handOf right) 0 z
-    added-is true = refl
-    added-is false = refl
-
-    heard-list : heardSide right ≡ cond done (addedTo wrapping n (made .stems) (handOf right) 0 z) z
-    heard-list = heard-is ∙ ap (λ (l : List ℤ). cond done l z) (added-is right)
-
-    pub heard-long : length (heardSide right) ≡ n
-    heard-long = ap length heard-list ∙ go done
-      where
-        go : (b : Bool) → length (cond b (addedTo wrapping n (made .stems) (handOf right) 0 z) z) ≡ n
-        go true = added-length wrapping (made .stems) (handOf right) 0 z n ∙ as-many
+        go : (b : Bool) → length (cond b (sides (served z z)) z) ≡ n
+        go true = added-length wrapping _ _ hand 0 z (served z z) ∙ as-many
         go false = as-many
 
-    -- each frame's sum, over nothing
-    pub heard-at : (i : ℕ) → i < n → getD (heardSide right) i (pos 0) ≡ wrapping (pos 0) (sideSum numChannels (clockStems chip ram queues n own) (stemsPerFrame * i + handOf right))
-    heard-at i h = ap (λ (l : List ℤ). getD l i (pos 0)) heard-list ∙ go done ∙ ap (λ (l : List ℤ). wrapping (pos 0) (sideSum numChannels l (stemsPerFrame * i + handOf right))) (sym stems-are)
+    -- each frame's sum, over nothing; the buffers held zeros
+    pub heard-at : (own other : List ℤ) → ((k : ℕ) → getD own k (pos 0) ≡ pos 0) → ((k : ℕ) → getD other k (pos 0) ≡ pos 0) → (i : ℕ) → i < n
+        → getD (heardSide hand) i (pos 0) ≡ wrapping (pos 0) (sideOf i hand (givenBy false own) (givenBy true other))
+    heard-at own other so st i h = go done
       where
-        go : (b : Bool) → getD (cond b (addedTo wrapping n (made .stems) (handOf right) 0 z) z) i (pos 0) ≡ wrapping (pos 0) (sideSum numChannels (cond b (made .stems) own) (stemsPerFrame * i + handOf right))
-        go true =
-            ap (λ (j : ℕ). getD (addedTo wrapping n (made .stems) (handOf right) 0 z) j (pos 0)) (zero-add i)
-            ∙ added-at wrapping (made .stems) (handOf right) 0 z n i h (omega (arith, as-many))
-            ∙ ap (λ (x : ℤ). wrapping x (sideSum numChannels (made .stems) (stemsPerFrame * i + handOf right))) (zeros (min n 1000) (0 + i))
-        go false = zeros (min n 1000) i ∙ sym (ap (wrapping (pos 0)) (sum-none numChannels own (stemsPerFrame * i + handOf right) silence) ∙ wraps-not (pos 0) nothing)
+        a : List ℤ
+        a = coreFrames chip ram queues n 0 .stems
+
+        b : List ℤ
+        b = coreFrames chip ram queues n 1 .stems
+
+        go : (t : Bool) → getD (cond t (sides (served z z)) z) i (pos 0) ≡ wrapping (pos 0) (sideOf i hand (cond t a own) (cond t b other))
+        go true = ap (λ (m : ℕ). getD (sides m) i (pos 0)) all-served ∙ added-zeros wrapping a b hand n (min n 1000) i h (omega arith)
+        go false = zeros (min n 1000) i ∙ sym (ap (wrapping (pos 0)) (side-none own other so st i hand) ∙ wraps-not (pos 0) (omega arith))
 
 -- ---- what a call of a list changes: c frames more, its own value, its own stems
 pub record Moves (c i : ℕ) (p q : Playing) : Type 0 where
   pub frames : q .frames ≡ p .frames + c
   pub many : length (q .values) ≡ length (p .values)
-  pub long : length (q .stems) ≡ length (p .stems)
+  pub long : (second : Bool) → length (bufferOf second q) ≡ length (bufferOf second p)
   pub values : (j : ℕ) → (j ≡ i → ⊥) → getD (q .values) j 0 ≡ getD (p .values) j 0
-  pub below : (k : ℕ) → k < stemsPerFrame * p .frames → getD (q .stems) k (pos 0) ≡ getD (p .stems) k (pos 0)
-  pub above : (k : ℕ) → stemsPerFrame * (p .frames + c) ≤ k → getD (q .stems) k (pos 0) ≡ getD (p .stems) k (pos 0)
+  pub below : (second : Bool) (k : ℕ) → k < stemsPerFrame * p .frames → getD (bufferOf second q) k (pos 0) ≡ getD (bufferOf second p) k (pos 0)
+  pub above : (second : Bool) (k : ℕ) → stemsPerFrame * (p .frames + c) ≤ k → getD (bufferOf second q) k (pos 0) ≡ getD (bufferOf second p) k (pos 0)
 
 module _ (kinds addresses : List ℕ) where
   -- stems for the frames that are clocked, all of them zeros
   pub record Roomy (c : ℕ) (p : Playing) : Type 0 where
     pub few : c ≤ 1000
-    pub room : stemsPerFrame * (p .frames + c) ≤ length (p .stems)
-    pub ahead : (k : ℕ) → stemsPerFrame * p .frames ≤ k → getD (p .stems) k (pos 0) ≡ pos 0
+    pub room : (second : Bool) → stemsPerFrame * (p .frames + c) ≤ length (bufferOf second p)
+    pub ahead : (second : Bool) (k : ℕ) → stemsPerFrame * p .frames ≤ k → getD (bufferOf second p) k (pos 0) ≡ pos 0
 
-  module _ (p : Playing) (n : ℕ) (r : Roomy n p) where
-    pub own-long : length (ownStems p n) ≡ stemsPerFrame * n
-    own-long = part-long (p .stems) (stemsPerFrame * p .frames) (stemsPerFrame * n) (omega (arith, r .room))
+  module _ (p : Playing) (n : ℕ) (r : Roomy n p) (second : Bool) where
+    abbrev own : List ℤ
+    own = part (bufferOf second p) (stemsPerFrame * p .frames) (stemsPerFrame * n)
 
-    pub own-silent : (k : ℕ) → getD (ownStems p n) k (pos 0) ≡ pos 0
+    own-long : length own ≡ stemsPerFrame * n
+    own-long = part-long (bufferOf second p) (stemsPerFrame * p .frames) (stemsPerFrame * n) (omega (arith, r .room second))
+
+    pub own-silent : (k : ℕ) → getD (part (bufferOf second p) (stemsPerFrame * p .frames) (stemsPerFrame * n)) k (pos 0) ≡ pos 0
     own-silent k =
         elim (decLt k (stemsPerFrame * n)) [
-          | yes y ↦ part-at (p .stems) (stemsPerFrame * p .frames) (stemsPerFrame * n) k y ∙ r .ahead (stemsPerFrame * p .frames + k) (omega arith)
-          | no y ↦ List·getD-eq-default (ownStems p n) (pos 0) (past k y)
+          | yes y ↦ part-at (bufferOf second p) (stemsPerFrame * p .frames) (stemsPerFrame * n) k y ∙ r .ahead second (stemsPerFrame * p .frames + k) (omega arith)
+          | no y ↦ List·getD-eq-default own (pos 0) (past k y)
         ]
       where
-        past : (k : ℕ) → (k < stemsPerFrame * n → ⊥) → length (ownStems p n) ≤ k
+        past : (k : ℕ) → (k < stemsPerFrame * n → ⊥) → length own ≤ k
         past k y = omega (arith, own-long)
 
-    abbrev pub own-stems : List ℤ
-    own-stems = clockStems (p .chip) (p .ram) (p .queues) n (ownStems p n)
+    -- the stems that it puts there
+    abbrev pub stemsMade : List ℤ
+    stemsMade = givenBy (p .chip) (p .ram) (p .queues) n (r .few) second (part (bufferOf second p) (stemsPerFrame * p .frames) (stemsPerFrame * n))
 
-    pub stems-made : length own-stems ≡ stemsPerFrame * n
-    stems-made = stems-long (p .chip) (p .ram) (p .queues) n (r .few) (ownStems p n) own-silent own-long
+    pub stems-made : length stemsMade ≡ stemsPerFrame * n
+    stems-made = given-long (p .chip) (p .ram) (p .queues) n (r .few) second own own-long
+
+  pub stems-put : (p : Playing) (n : ℕ) (r : Roomy n p) (second : Bool) → bufferOf second (clockPlayed p n) ≡ sets (bufferOf second p) (stemsPerFrame * p .frames) (stemsMade p n r second)
+  stems-put p n r true = refl
+  stems-put p n r false = refl
 
   -- a read's answer, or a peek's
   abbrev pub lookedAt : ℕ → Playing → Called
   lookedAt i p =
-      cond (eqb (getD kinds i 0) readRegisterKind) (readRegisterCalled (p .chip) (getD addresses i 0)) (answered (p .chip) (peekRegisterAnswer (p .chip) (getD addresses i 0)))
+      cond (eqb (getD kinds i 0) readRegisterKind) (readRegisterCalled (p .chip) 0 (getD addresses i 0)) (answered (p .chip) (peekRegisterAnswer (p .chip) 0 (getD addresses i 0)))
 
-  moves-still : (i : ℕ) (p q : Playing) → q .frames ≡ p .frames → q .values ≡ p .values → q .stems ≡ p .stems → Moves 0 i p q
+  moves-still : (i : ℕ) (p q : Playing) → q .frames ≡ p .frames → q .values ≡ p .values → ((second : Bool) → bufferOf second q ≡ bufferOf second p) → Moves 0 i p q
   moves-still i p q f v s = record {
     frames = omega (arith, f);
     many = ap length v;
-    long = ap length s;
+    long = λ b. ap length (s b);
     values = λ j h. ap (λ (l : List ℕ). getD l j 0) v;
-    below = λ k h. ap (λ (l : List ℤ). getD l k (pos 0)) s;
-    above = λ k h. ap (λ (l : List ℤ). getD l k (pos 0)) s;
+    below = λ b k h. ap (λ (l : List ℤ). getD l k (pos 0)) (s b);
+    above = λ b k h. ap (λ (l : List ℤ). getD l k (pos 0)) (s b);
   }
 
+  -- the same stems
+  stays : (p q : Playing) → q .stems ≡ p .stems → q .others ≡ p .others → (second : Bool) → bufferOf second q ≡ bufferOf second p
+  stays p q s o true = o
+  stays p q s o false = s
+
   pub moves : (t : Asked) (i : ℕ) (p : Playing) → Roomy (clockedAs t (getD addresses i 0)) p → Moves (clockedAs t (getD addresses i 0)) i p (callPlayed kinds addresses t i p)
-  moves asked.WriteRegister i p r = moves-still i p (callPlayed kinds addresses asked.WriteRegister i p) refl refl refl
-  moves asked.WritePcmRam i p r = moves-still i p (callPlayed kinds addresses asked.WritePcmRam i p) refl refl refl
-  moves asked.SetVersion i p r = moves-still i p (callPlayed kinds addresses asked.SetVersion i p) refl refl refl
-  moves asked.Nothing i p r = moves-still i p p refl refl refl
+  moves asked.WriteRegister i p r = let q = callPlayed kinds addresses asked.WriteRegister i p in moves-still i p q refl refl (stays p q refl refl)
+  moves asked.WritePcmRam i p r = let q = callPlayed kinds addresses asked.WritePcmRam i p in moves-still i p q refl refl (stays p q refl refl)
+  moves asked.SetVersion i p r = let q = callPlayed kinds addresses asked.SetVersion i p in moves-still i p q refl refl (stays p q refl refl)
+  moves asked.Nothing i p r = moves-still i p p refl refl (λ b. refl)
   moves asked.Look i p r =
       let x = lookedAt i p in
+      let s = stays p (callPlayed kinds addresses asked.Look i p) refl refl in
       record {
         frames = omega arith;
         many = length-set (p .values) i (byteAnswered (x .answer));
-        long = refl;
+        long = λ b. ap length (s b);
         values = λ j h. getD-set-other (p .values) i j (byteAnswered (x .answer)) 0 h;
-        below = λ k h. refl;
-        above = λ k h. refl;
+        below = λ b k h. ap (λ (l : List ℤ). getD l k (pos 0)) (s b);
+        above = λ b k h. ap (λ (l : List ℤ). getD l k (pos 0)) (s b);
       }
   moves asked.Clock i p r =
       let n = getD addresses i 0 in
-      let xs = own-stems p n r in
-      let l = stems-made p n r in
+      let put = stems-put p n r in
+      let made = stemsMade p n r in
+      let at = stemsPerFrame * p .frames in
       record {
         frames = refl;
         many = refl;
-        long = length-sets (p .stems) (stemsPerFrame * p .frames) xs;
+        long = λ b. ap length (put b) ∙ length-sets (bufferOf b p) at (made b);
         values = λ j h. refl;
-        below = λ k h. sets-below (pos 0) xs (p .stems) (stemsPerFrame * p .frames) k h;
-        above = λ k h. sets-above (pos 0) xs (p .stems) (stemsPerFrame * p .frames) k (omega (arith, l, h));
+        below = λ b k h. ap (λ (l : List ℤ). getD l k (pos 0)) (put b) ∙ sets-below (pos 0) (made b) (bufferOf b p) at k h;
+        above = λ b k h. ap (λ (l : List ℤ). getD l k (pos 0)) (put b) ∙ sets-above (pos 0) (made b) (bufferOf b p) at k (omega (arith, stems-made p n r b, h));
       }
 
   -- ---- a call that is made is its line
@@ -302,7 +251,7 @@ module _ (kinds addresses : List ℕ) where
       text = shownAs t isRead a byte xl xr;
     }
 
-    look-line : (isRead : Bool) (x : Called) → x ≡ cond isRead (readRegisterCalled (p .chip) a) (answered (p .chip) (peekRegisterAnswer (p .chip) a)) → byte ≡ byteAnswered (x .answer)
+    look-line : (isRead : Bool) (x : Called) → x ≡ cond isRead (readRegisterCalled (p .chip) 0 a) (answered (p .chip) (peekRegisterAnswer (p .chip) 0 a)) → byte ≡ byteAnswered (x .answer)
         → effectOf (worldOf p l r) (cond isRead (Read a) (Peek a)) ≡ record { after = worldOf (shownBy p i x) l r; text = readBackLine (cond isRead 82 80) a byte }
     unfolding effectOf
     look-line true x e b =
@@ -316,11 +265,9 @@ module _ (kinds addresses : List ℕ) where
         → effectOf (worldOf p l r) (Clock a) ≡ record { after = worldOf (clockPlayed p a) (peakOf l xl a) (peakOf r xr a); text = frameLines xl xr (min (length xl) (length xr)) }
     unfolding effectOf clockedPlayer clockedText
     clock-line q el er =
-        let o = own-silent p a q in
-        let g = own-long p a q in
-        let c = sym (clock-chip (p .chip) (p .ram) (p .queues) a (q .few) (ownStems p a) o g) in
-        let nl = heard-long (p .chip) (p .ram) (p .queues) a (q .few) (ownStems p a) o g false in
-        let nr = heard-long (p .chip) (p .ram) (p .queues) a (q .few) (ownStems p a) o g true in
+        let c = sym (clock-chip (p .chip) (p .ram) (p .queues) a (q .few)) in
+        let nl = ap length (heard-left (p .chip) (p .ram) (p .queues) a (q .few)) ∙ heard-long (p .chip) (p .ram) (p .queues) a (q .few) 0 in
+        let nr = ap length (heard-right (p .chip) (p .ram) (p .queues) a (q .few)) ∙ heard-long (p .chip) (p .ram) (p .queues) a (q .few) 1 in
         (λ j. record {
           after = world (record {
             chip = c j;

@@ -4,6 +4,7 @@ pub mod Rooms
 pub mod Spots
 pub mod Running
 pub mod Batching
+pub mod Places
 pub mod Hearing
 pub mod Lines
 pub mod Parted

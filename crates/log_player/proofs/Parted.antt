@@ -10,7 +10,7 @@ use lib.ListN.{length, drop, replicate, length-append, length-drop}
 use lib.Seq.{drop-drop}
 use borrow.Author.Tests.{eq-eqb}
 use Rattle.num.proofs.Choice.{never, cond-by}
-use Rattle.sizes.specs.Sizes.{queueBuffer}
+use Rattle.cores.specs.Sizes.{chipQueues}
 use Rattle.tone.specs.Pcm.{isRamLength}
 use Rattle.s3w2.specs.Answers.{isDone}
 use Rattle.s3w2.specs.Refusals.{refusal}
@@ -320,5 +320,5 @@ zeroed ram e =
     ap (λ (n : ℕ). cond (isDone (madeRefusal n)) (replicate n 0) ram) e
     ∙ ap (λ (b : Bool). cond (isDone (refusal b true true true)) (replicate 65536 0) ram) allowed
 
-pub begins-fresh : (ram : List ℕ) → length ram ≡ 65536 → world (freshPlayer (length ram)) (madeRam ram) (replicate queueBuffer (pos 0)) ≡ freshWorld
-begins-fresh ram e = λ i. world (freshPlayer (e i)) (zeroed ram e i) (replicate queueBuffer (pos 0))
+pub begins-fresh : (ram : List ℕ) → length ram ≡ 65536 → world (freshPlayer (length ram)) (madeRam ram) (replicate chipQueues (pos 0)) ≡ freshWorld
+begins-fresh ram e = λ i. world (freshPlayer (e i)) (zeroed ram e i) (replicate chipQueues (pos 0))

@@ -1,4 +1,4 @@
--- What a line does, and what it prints.
+-- What a line does, and what it prints. Registers are core 0's.
 use mathlib.Core.List.{List, []}
 use Prim.Native.Nat.{ℕ, min}
 use lib.IntN.{ℤ, pos}
@@ -52,13 +52,13 @@ effect player ram queues text = record { after = world player ram queues; text =
 -- `R` is 82, `P` is 80
 unfoldable pub effectOf : World → Line → Effect
 effectOf w (Write a v) =
-    effect (withChip (w .player) (writeRegisterCalled (w .player .chip) (length (w .queues)) a v .chip)) (w .ram) (writeRegisterBuffer (w .player .chip) (w .queues) a v) []
+    effect (withChip (w .player) (writeRegisterCalled (w .player .chip) (length (w .queues)) 0 a v .chip)) (w .ram) (writeRegisterBuffer (w .player .chip) (w .queues) 0 a v) []
 effectOf w (WriteRam a v) =
     effect (withChip (w .player) (writePcmRamCalled (w .player .chip) (length (w .ram)) a .chip)) (writePcmRamRam (w .player .chip) (w .ram) a v) (w .queues) []
 effectOf w (Read a) =
-    let called = readRegisterCalled (w .player .chip) a in
+    let called = readRegisterCalled (w .player .chip) 0 a in
     effect (withChip (w .player) (called .chip)) (w .ram) (w .queues) (readBackLine 82 a (byteAnswered (called .answer)))
-effectOf w (Peek a) = effect (w .player) (w .ram) (w .queues) (readBackLine 80 a (byteAnswered (peekRegisterAnswer (w .player .chip) a)))
+effectOf w (Peek a) = effect (w .player) (w .ram) (w .queues) (readBackLine 80 a (byteAnswered (peekRegisterAnswer (w .player .chip) 0 a)))
 effectOf w (Clock n) =
     effect (clockedPlayer (w .player) (w .ram) (w .queues) (silent n) (silent n)) (w .ram) (w .queues) (clockedText (w .player .chip) (w .ram) (w .queues) (silent n) (silent n))
 effectOf w (Version v) = effect (withChip (w .player) (setVersionCalled (w .player .chip) (versionOf v) .chip)) (w .ram) (w .queues) []

@@ -105,10 +105,11 @@ abbrev pub NoLine : List ℕ → ℕ → Type 0
 NoLine input from = isLine (nextOf (drop from input) from) ≡ false
 
 -- ---- buffers for the frames that a list clocks
-pub record Silent (kinds addresses values : List ℕ) (stems left right : List ℤ) : Type 0 where
+pub record Silent (kinds addresses values : List ℕ) (stems others left right : List ℤ) : Type 0 where
   pub many : (length addresses ≡ length kinds) × (length values ≡ length kinds)
   pub few : framesAsked kinds addresses 0 (length kinds) ≤ 1000
   pub stemmed : stems ≡ replicate (stemsPerFrame * framesAsked kinds addresses 0 (length kinds)) (pos 0)
+  pub second : others ≡ replicate (stemsPerFrame * framesAsked kinds addresses 0 (length kinds)) (pos 0)
   pub lefts : left ≡ replicate (framesAsked kinds addresses 0 (length kinds)) (pos 0)
   pub rights : right ≡ replicate (framesAsked kinds addresses 0 (length kinds)) (pos 0)
 

@@ -3,7 +3,7 @@ use mathlib.Core.List.{List}
 use Prim.Native.Nat.{ℕ}
 use lib.IntN.{ℤ, pos}
 use lib.ListN.{replicate}
-use Rattle.sizes.specs.Sizes.{queueBuffer}
+use Rattle.cores.specs.Sizes.{chipQueues}
 use Rattle.version.specs.declared.SguVersion.the-variants.{«V3_1»}
 use Rattle.s3w2.specs.declared.Chip.{Chip}
 use Rattle.s3w2.specs.Fresh.{madeCalled}
@@ -31,4 +31,4 @@ madePlayer ram = record { player = freshPlayer ram; answer = madeCalled ram «V3
 
 -- the log program's (docs/SPECIFICATION.md, section 11): 65,536 bytes of zeros
 abbrev pub freshWorld : World
-freshWorld = world (freshPlayer 65536) (replicate 65536 0) (replicate queueBuffer (pos 0))
+freshWorld = world (freshPlayer 65536) (replicate 65536 0) (replicate chipQueues (pos 0))

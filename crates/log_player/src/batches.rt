@@ -1,8 +1,11 @@
 // Lines, many at a time: the chip is handed over once for all of them.
 ghost use mathlib.Core.Path.{_≡_};
 ghost use Prim.Native.Nat.{_+_, _*_, _≤_, _<_, _^_, min};
-ghost use lib.ListN.{length};
+ghost use mathlib.Core.Bool.{true};
+ghost use lib.IntN.{pos};
+ghost use lib.ListN.{length, replicate};
 ghost use Rattle.decimal.specs.Written.{Put};
+ghost use Rattle.sides.specs.Sides.{framesIn, wrapping, addedTo};
 ghost use Rattle.frames.specs.Listing.{framesAsked};
 ghost use Rattle.log_player.specs.Worlds.{world};
 ghost use Rattle.log_player.specs.Runs.{refusedBy};
@@ -25,7 +28,7 @@ use log::Line;
 use sizes::STEMS;
 
 // Lines, and frames, of a batch at most. A line has at most so many frames.
-const LINES: usize = 1024;
+const LINES: usize = 2048;
 
 const FRAMES: usize = 1000;
 
@@ -72,7 +75,7 @@ fn gather(
     addresses: &mut [u32],
     values: &mut [u8],
 ) -> Gathered
-    requires { ⌜ (1 ≤ most) × (most ≤ 1024) ⌝ ∗ ⌜ (most ≤ length (now kinds)) × (most ≤ length (now addresses)) × (most ≤ length (now values)) ⌝ }
+    requires { ⌜ (1 ≤ most) × (most ≤ 2048) ⌝ ∗ ⌜ (most ≤ length (now kinds)) × (most ≤ length (now addresses)) × (most ≤ length (now values)) ⌝ }
     ensures bound { λ r. ⌜ r .count ≤ most ⌝ }
     ensures frames { λ r. ⌜ r .frames ≡ framesAsked (now (kinds .exit)) (now (addresses .exit)) 0 (r .count) ⌝ }
     ensures gathers { λ r. ⌜ Gathers (now (input .entry)) from (r .from) (r .count) budget (now (kinds .exit)) (now (addresses .exit))
@@ -185,6 +188,23 @@ fn show(
     end
 }
 
+// Adds the frames of both cores to two sides. Core 1's stems are not looked at where they are known to be zeros.
+fn hear(stems: &[i16], others: &[i16], silent: bool, left: &mut [i32], right: &mut [i32])
+    requires { ⌜ (silent ≡ true → now others ≡ replicate (length (now others)) (pos 0)) ⌝ }
+    ensures left { λ _. ⌜ now (left .exit)
+        ≡ addedTo wrapping (framesIn (length (now (stems .entry))) (length (now (left .entry))) (length (now (right .entry))) 0)
+        (now (stems .entry)) (now (others .entry)) 0 0 (now (left .entry)) ⌝ }
+    ensures right { λ _. ⌜ now (right .exit)
+        ≡ addedTo wrapping (framesIn (length (now (stems .entry))) (length (now (left .entry))) (length (now (right .entry))) 0)
+        (now (stems .entry)) (now (others .entry)) 1 0 (now (right .entry)) ⌝ }
+{
+    if silent {
+        sides::add_i32(stems, &others[..0], left, right, 0);
+        return;
+    }
+    sides::add_i32(stems, others, left, right, 0);
+}
+
 impl Player {
     // Plays the lines of a list, over silent buffers for its frames.
     fn play_over(
@@ -195,20 +215,31 @@ impl Player {
         ram: &mut [u8],
         queues: &mut [i16],
         stems: &mut [i16],
+        others: &mut [i16],
         left: &mut [i32],
         right: &mut [i32],
         out: &mut [u8],
         at: usize,
     ) -> Played
         requires { ⌜ refusedBy (world self (now ram) (now queues)) ≡ 0 ⌝
-            ∗ ⌜ Silent (now kinds) (now addresses) (now values) (now stems) (now left) (now right) ⌝ }
+            ∗ ⌜ Silent (now kinds) (now addresses) (now values) (now stems) (now others) (now left) (now right) ⌝ }
         ensures { λ r. ⌜ PlaysLines (now (kinds .entry)) (now (addresses .entry)) (now (values .entry))
             (world self (now (ram .entry)) (now (queues .entry))) (world (r .player) (now (ram .exit)) (now (queues .exit)))
             (now (out .entry)) (now (out .exit)) at (r .end) ⌝ }
     {
         let chip = self.chip;
-        let called = chip.play(kinds, addresses, &mut *values, ram, queues, &mut *stems);
-        sides::add_i32(&*stems, &mut *left, &mut *right, 0);
+        let silent = rest::rests(chip.cores[1]);
+        let called = chip_lists::play(
+            chip,
+            kinds,
+            addresses,
+            &mut *values,
+            ram,
+            queues,
+            &mut *stems,
+            &mut *others,
+        );
+        hear(&*stems, &*others, silent, &mut *left, &mut *right);
         let end = show(kinds, addresses, &*values, &*left, &*right, out, at);
         let next = called.chip;
         let player = Player {
@@ -240,6 +271,7 @@ impl Player {
         let mut left = [0i32; FEW];
         let mut right = [0i32; FEW];
         let mut stems = [0i16; STEMS * FEW];
+        let mut others = [0i16; STEMS * FEW];
         let s = STEMS * frames;
         self.play_over(
             kinds,
@@ -248,6 +280,7 @@ impl Player {
             ram,
             queues,
             &mut stems[..s],
+            &mut others[..s],
             &mut left[..frames],
             &mut right[..frames],
             out,
@@ -276,6 +309,7 @@ impl Player {
         let mut left = [0i32; FRAMES];
         let mut right = [0i32; FRAMES];
         let mut stems = [0i16; STEMS * FRAMES];
+        let mut others = [0i16; STEMS * FRAMES];
         let s = STEMS * frames;
         self.play_over(
             kinds,
@@ -284,6 +318,7 @@ impl Player {
             ram,
             queues,
             &mut stems[..s],
+            &mut others[..s],
             &mut left[..frames],
             &mut right[..frames],
             out,

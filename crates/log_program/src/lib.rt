@@ -4,8 +4,8 @@ mod moving;
 mod playing;
 mod saving;
 
+use cores::CHIP_QUEUES;
 use log_player::Player;
-use sizes::QUEUE_BUFFER;
 
 // A program over a log: whether it reads a state before the log, with voice lines as stored ones or as any, and whether it
 // prints the state in which the log leaves the player, and not the peaks.
@@ -38,7 +38,7 @@ fn with_queues(program: Program, queues: &mut [i16]) {
 }
 
 fn start(program: Program) {
-    let mut queues = [0i16; QUEUE_BUFFER];
+    let mut queues = [0i16; CHIP_QUEUES];
     with_queues(program, &mut queues);
 }
 

@@ -7,8 +7,12 @@ use crate::moving::written;
 use crate::playing::stopped;
 use log_player::Player;
 use log_state::Found;
+use log_state::LINES;
 use program::say;
 use session::LineAnswer;
+
+// The lines of a state from before there was a second core.
+const OLD_LINES: usize = 9;
 
 // A state of which the lines before line k were read: the bytes of the input buffer from `from` to before `filled` follow them.
 struct Load {
@@ -26,7 +30,7 @@ fn refused(program: Program, player: Player) -> Load {
         player,
         from: 0,
         filled: 0,
-        k: 9,
+        k: LINES,
         going: false,
     }
 }
@@ -38,6 +42,9 @@ fn tell_line(k: usize, text: &mut [u8]) {
     say(b"s3w2-load: line ");
     say(num::part(text, 0, end));
     say(b" of the state\n");
+    if k == OLD_LINES {
+        say(b"s3w2-load: a state of nine lines, of one core, is not read: a state has seventeen\n");
+    }
 }
 
 // Reads line k from a text that ends at `behind` in the input buffer.
@@ -52,7 +59,7 @@ fn take(
 ) -> Load {
     let program = load.program;
     let player = load.player;
-    let k = num::least(load.k, 8);
+    let k = num::least(load.k, LINES - 1);
     let taken = log_state::take_line(program.stored, player, ram, queues, k, line);
     let after = taken.player;
     let answer = taken.answer;
@@ -126,7 +133,7 @@ fn look(load: Load, input: &mut [u8], text: &mut [u8], ram: &[u8], queues: &mut 
     }
 }
 
-// Reads the nine lines.
+// Reads the lines of the state.
 fn load_lines(
     first: Load,
     input: &mut [u8],
@@ -137,7 +144,7 @@ fn load_lines(
     let mut load = first;
     let mut turns: u64 = 0xffff_ffff_ffff_ffff;
     while 0 < turns {
-        if load.k < 9 {
+        if load.k < LINES {
             load = look(load, &mut *input, &mut *text, ram, &mut *queues);
             turns -= 1;
         } else {

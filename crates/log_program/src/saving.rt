@@ -2,6 +2,7 @@
 use crate::Program;
 use crate::moving::written;
 use log_player::Player;
+use log_state::LINES;
 use session::LineAnswer;
 
 // Writes line k of the state, and answers whether it could.
@@ -24,7 +25,7 @@ fn save_line(
 
 pub(crate) fn save(program: Program, player: Player, text: &mut [u8], ram: &[u8], queues: &[i16]) {
     let mut k = 0;
-    while k < 9 {
+    while k < LINES {
         if !save_line(program, player, k, &mut *text, ram, queues) {
             return;
         }

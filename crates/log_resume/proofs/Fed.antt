@@ -7,7 +7,7 @@ use Prim.Native.Nat.{ℕ}
 use lib.Dec.{eqb}
 use lib.IntN.{pos}
 use lib.ListN.{length, getD, set, replicate, length-set, length-replicate}
-use Rattle.sizes.specs.Sizes.{queueBuffer}
+use Rattle.cores.specs.Sizes.{chipVoices, chipQueues}
 use Rattle.num.proofs.Choice.{cond-by}
 use Rattle.log.specs.Lines.{parsedLine, isBad}
 use Rattle.log.specs.declared.Line.{Line}
@@ -20,7 +20,7 @@ use Rattle.chip_calls.specs.Code.{code}
 use Rattle.log_player.specs.Worlds.{World, world, freshPlayer, freshWorld}
 use Rattle.log_player.specs.Applied.{effectOf, afterLine, printed}
 use Rattle.log_state.specs.Finding.{soundLine}
-use Rattle.log_state.specs.Lines.{stateLine, stateLines, stateText}
+use Rattle.log_state.specs.Lines.{stateLine, stateLines, lineCount, stateText}
 use Rattle.log_state.specs.Loads.{readLines}
 use Rattle.log_state.proofs.Stated.{no-sound}
 use Rattle.log_state.proofs.Heard.{Skipped, skip-none, skip-both, skip-choice, printed-skipped, all-skipped}
@@ -43,7 +43,7 @@ state-first : (w : World) (more : List ℕ) → soundLine (getD (stateText w ++ 
 state-first w more =
     let chip = w .player .chip in
     let l : List ℕ = stateLine chip (length (w .ram)) (w .queues) 0 in
-    let rest : List ℕ = stateLines chip (length (w .ram)) (w .queues) 8 1 in
+    let rest : List ℕ = stateLines chip (length (w .ram)) (w .queues) chipVoices 1 in
     ap (λ (t : List ℕ). soundLine (getD t 0 0) 0) (append-assoc (l ++ rest) (w .ram) more ∙ append-assoc l rest (w .ram ++ more))
     ∙ no-sound chip (length (w .ram)) (w .queues) 0 (rest ++ (w .ram ++ more))
 
@@ -72,9 +72,9 @@ fed first second f =
     let w = played freshWorld first in
     record {
       read =
-          ap (readLines false 9 0 (freshPlayer 65536) 65536 (replicate queueBuffer (pos 0)))
+          ap (readLines false lineCount 0 (freshPlayer 65536) 65536 (replicate chipQueues (pos 0)))
           (all-skipped (soundsOf freshWorld [] (half first)) (stateText w ++ second) (sounds-skipped (half first) freshWorld []) (state-first w second))
-          ∙ ap (λ (ram : ℕ). readLines false 9 0 (freshPlayer 65536) ram (replicate queueBuffer (pos 0)) (stateText w ++ second)) (sym (size-played first freshWorld ∙ length-replicate {A = ℕ} 65536 0))
+          ∙ ap (λ (ram : ℕ). readLines false lineCount 0 (freshPlayer 65536) ram (replicate chipQueues (pos 0)) (stateText w ++ second)) (sym (size-played first freshWorld ∙ length-replicate {A = ℕ} 65536 0))
           ∙ loads w (held-played first freshWorld fresh-held f) second;
       heard = cut first second f ∙ ap (λ (r : List ℕ). soundsOf freshWorld [] (half first) ++ soundsOf (world (loaded w .player) r (loaded w .queues)) [] second) (ram-same w);
     }

@@ -28,14 +28,14 @@ use Rattle.log_resume.specs.Cuts.{machineOf}
 
 -- the call that a line makes; a bad one makes none, and a peek, which changes nothing, stands for it
 abbrev pub callOf : Line → Call
-callOf (Write a v) = list.writeRegister a v
+callOf (Write a v) = list.writeRegister 0 a v
 callOf (WriteRam a v) = list.writePcmRam a v
-callOf (Read a) = list.readRegister a
-callOf (Peek a) = list.peekRegister a
+callOf (Read a) = list.readRegister 0 a
+callOf (Peek a) = list.peekRegister 0 a
 callOf (Clock n) = list.clockMixedIntoI32 (silent n) (silent n)
 callOf (Version v) = list.setVersion (versionOf v)
-callOf Malformed = list.peekRegister 0
-callOf Unmapped = list.peekRegister 0
+callOf Malformed = list.peekRegister 0 0
+callOf Unmapped = list.peekRegister 0 0
 
 pub call-fits : (l : Line) → FitLine l → FitCall (callOf l)
 call-fits (Write a v) f = f
@@ -101,8 +101,8 @@ text-same : (w : World) (l : Line) → printed w l ≡ textOf l (code (machineOf
 unfolding effectOf clockedText code
 text-same w (Write a v) = refl
 text-same w (WriteRam a v) = refl
-text-same w (Read a) = ap (readBackLine 82 a) (byte-in (readRegisterCalled (w .player .chip) a .answer))
-text-same w (Peek a) = ap (readBackLine 80 a) (byte-in (peekRegisterAnswer (w .player .chip) a))
+text-same w (Read a) = ap (readBackLine 82 a) (byte-in (readRegisterCalled (w .player .chip) 0 a .answer))
+text-same w (Peek a) = ap (readBackLine 80 a) (byte-in (peekRegisterAnswer (w .player .chip) 0 a))
 text-same w (Clock n) = refl
 text-same w (Version v) = refl
 text-same w Malformed = refl

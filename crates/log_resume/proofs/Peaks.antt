@@ -1,36 +1,36 @@
--- What the players that a log reaches print and keep: an `F` line has what `clock_mixed` gives, and no peak passes 131,072. Assumes nothing.
+-- What the players that a log reaches print and keep: an `F` line has what `clock_mixed` gives, and no peak passes 262,144. Assumes nothing.
 use mathlib.Core.Path.{_≡_, sym, ap, _∙_, subst}
 use mathlib.Core.List.{List, [], _∷_}
 use Prim.Native.Nat.{ℕ, _+_, _*_, _/_, _%_, _≤_, _<_, min}
 use native.Mathlib.Nat as N
 use native.Mathlib.Omega.{arith}
 use native.Mathlib.Decide.{decLe}
-use lib.IntN.{ℤ, pos}
-use lib.ListN.{length, getD, take, drop, List·getD-eq-default}
+use lib.IntN.{pos}
+use lib.ListN.{length, getD, drop, List·getD-eq-default}
 use lib.Seq.{getD-take, getD-drop}
 use mir.Syntax.{w16}
 use mir.Val.{SFits}
-use Rattle.sizes.specs.Sizes.{numChannels, wavetableSize, fifoCapacity}
+use Rattle.sizes.specs.Sizes.{numChannels, wavetableSize, fifoCapacity, queueBuffer}
+use Rattle.cores.specs.Sizes.{numCores}
 use Rattle.num.specs.Lists.{part}
 use Rattle.num.proofs.Integers.{fit}
 use Rattle.registers.specs.PlainQueue.{FitEntries}
-use Rattle.voices.specs.Core.{channelAt}
-use Rattle.frames.specs.Kept.{EachByte, FitSounding}
-use Rattle.s3w2.specs.declared.Chip.{Chip}
+use Rattle.frames.proofs.Parts.{part-length}
 use Rattle.s3w2.specs.Mixing.{clockMixedLeft, clockMixedRight}
-use Rattle.s3w2.proofs.Kept.{FitChip}
+use Rattle.s3w2.specs.Chips.{coreAt, coreQueues}
+use Rattle.s3w2.proofs.Fits.{FitCore, FitChip}
 use Rattle.log.specs.declared.Line.{Line}
 use Rattle.log.specs.declared.Line.the-variants.{Write, WriteRam, Read, Peek, Clock, Version, Malformed, Unmapped}
 use Rattle.log.specs.Lines.{parsedLine}
 use Rattle.plain_chip.specs.Lists.{Every}
-use Rattle.slots.specs.Good.{SlotOk, FitChannel}
+use Rattle.slots.specs.Good.{SlotOk}
 use Rattle.chip_as_slots.specs.Whole.{slotAt}
-use Rattle.chip_as_slots.proofs.Frames.{ok-at}
 use Rattle.log_player.specs.declared.Player.{Player}
 use Rattle.log_player.specs.Worlds.{World, freshWorld}
 use Rattle.log_player.specs.Applied.{silent, effectOf, afterLine, printed}
 use Rattle.log_player.proofs.Overs.{plainLines, frames-stay, left-peak, right-peak}
 use Rattle.chip_calls.specs.Ties.{Machine}
+use Rattle.chip_calls.proofs.Accepting.{core-good}
 use Rattle.resume.proofs.Steps.{HeldMachine}
 use Rattle.log_resume.specs.Cuts.{Playable, played, machineOf}
 use Rattle.log_resume.proofs.Fresh.{fresh-held}
@@ -54,17 +54,17 @@ module _
 
 -- ---- the ranges of a chip that calls can reach
 module _ (m : Machine) (h : HeldMachine m) where
-  voice-ok : (j : ℕ) → j < numChannels → SlotOk (m .chip .version) (m .ram) (slotAt (m .chip .core) (m .queues) j)
-  voice-ok j l = ok-at (m .chip .version) (m .ram) (m .chip .core) (m .queues) (h .good .voices) j l
+  voice-ok : (k : ℕ) → k < numCores → (j : ℕ) → j < numChannels → SlotOk (m .chip .version) (m .ram) (slotAt (coreAt (m .chip) k) (coreQueues k (m .queues)) j)
+  voice-ok = core-good (m .chip) (m .ram) (m .queues) h
 
-  pub fits-held : FitChip (m .chip)
-  fits-held = record {
-    sized = h .sized;
+  core-held : (k : ℕ) → k < numCores → FitCore (coreAt (m .chip) k)
+  core-held k c = record {
+    sized = h .sized .each k c;
     bytes =
-        each-part (λ (b : ℕ). b < 256) 0 (omega arith) (m .chip .core .wavetables) wavetableSize numChannels (omega arith) (h .sized .wavetables)
-        (λ j l. voice-ok j l .bytes .each);
+        each-part (λ (b : ℕ). b < 256) 0 (omega arith) (coreAt (m .chip) k .wavetables) wavetableSize numChannels (omega arith) (h .sized .each k c .wavetables)
+        (λ j l. voice-ok k c j l .bytes .each);
     fits = λ j l.
-        let f = voice-ok j l .fits in
+        let f = voice-ok k c j l .fits in
         record {
           oscillator = f .oscillator;
           fifo = f .fifo;
@@ -74,17 +74,24 @@ module _ (m : Machine) (h : HeldMachine m) where
         };
   }
 
+  pub fits-held : FitChip (m .chip)
+  fits-held = record { sized = h .sized .two; each = core-held }
+
+  -- core by core, voice by voice
   pub entries-held : FitEntries (m .queues)
-  entries-held = record {
-    each =
-        each-part (λ (z : ℤ). SFits w16 z) (pos 0) (fit w16 (pos 0) (omega arith) (omega arith)) (m .queues) fifoCapacity numChannels (omega arith)
-        (h .long) (λ j l. voice-ok j l .entries .each);
-  }
+  entries-held =
+      let none = fit w16 (pos 0) (omega arith) (omega arith) in
+      let long = h .long in
+      record {
+        each = each-part (SFits w16) (pos 0) none (m .queues) queueBuffer numCores (omega arith) long (λ k c.
+            each-part (SFits w16) (pos 0) none (coreQueues k (m .queues)) fifoCapacity numChannels (omega arith)
+            (part-length (m .queues) (k * queueBuffer) queueBuffer (omega arith)) (λ j l. voice-ok k c j l .entries .each));
+      }
 
 -- ---- one line
 pub record Peaks (p : Player) : Type 0 where
-  pub left : p .left ≤ 131072
-  pub right : p .right ≤ 131072
+  pub left : p .left ≤ 262144
+  pub right : p .right ≤ 262144
 
 line-peaks : (w : World) → HeldMachine (machineOf w) → (l : Line) → Peaks (w .player) → Peaks (afterLine w l .player)
 unfolding effectOf
@@ -95,7 +102,7 @@ line-peaks w h (Peek a) p = p
 line-peaks w h (Clock n) p =
     let f = fits-held (machineOf w) h in
     let q = entries-held (machineOf w) h in
-    let b = h .good .bytes .each in
+    let b = h .good .cores .0 .bytes .each in
     record {
       left = left-peak (w .player) (w .ram) (w .queues) f b q n (p .left);
       right = right-peak (w .player) (w .ram) (w .queues) f b q n (p .right);
@@ -125,4 +132,4 @@ unfolding effectOf
 frames-same lines f n =
     let w = played freshWorld lines in
     let h : HeldMachine (machineOf w) = held-played lines freshWorld fresh-held f in
-    frames-stay (w .player) (w .ram) (w .queues) (fits-held (machineOf w) h) (h .good .bytes .each) (entries-held (machineOf w) h) n
+    frames-stay (w .player) (w .ram) (w .queues) (fits-held (machineOf w) h) (h .good .cores .0 .bytes .each) (entries-held (machineOf w) h) n

@@ -6,7 +6,7 @@ use Prim.Native.Nat.{ℕ, suc}
 use lib.Dec.{eqb}
 use lib.IntN.{pos}
 use lib.ListN.{length, replicate}
-use Rattle.sizes.specs.Sizes.{queueBuffer}
+use Rattle.cores.specs.Sizes.{chipQueues}
 use Rattle.log.specs.Lines.{parsedLine, badNumber, isBad}
 use Rattle.log.specs.Texts.{badLine}
 use Rattle.version.specs.declared.SguVersion.the-variants.{«V3_1»}
@@ -14,7 +14,7 @@ use Rattle.s3w2.specs.Fresh.{madeCalled}
 use Rattle.log_player.specs.Worlds.{World, world, freshPlayer, freshWorld}
 use Rattle.log_player.specs.Applied.{afterLine, printed}
 use Rattle.log_player.specs.Logs.{endText}
-use Rattle.log_state.specs.Lines.{stateText}
+use Rattle.log_state.specs.Lines.{lineCount, stateText}
 use Rattle.log_state.specs.Loads.{readLines, skipped}
 use Rattle.log_state.specs.Loads as load
 use Rattle.chip_calls.specs.Ties.{Machine}
@@ -58,7 +58,7 @@ abbrev pub machineOf : World → Machine
 machineOf w = record { chip = w .player .chip; ram = w .ram; queues = w .queues }
 
 abbrev pub fresh : List ℕ → Machine
-fresh ram = record { chip = madeCalled 65536 «V3_1» .chip; ram = ram; queues = replicate queueBuffer (pos 0) }
+fresh ram = record { chip = madeCalled 65536 «V3_1» .chip; ram = ram; queues = replicate chipQueues (pos 0) }
 
 abbrev pub loadedMachine : World → Machine
 loadedMachine w = resumed (fresh (w .ram)) (seen (machineOf w))
@@ -72,7 +72,7 @@ loaded w = world (record { chip = loadedMachine w .chip; left = 0; right = 0 }) 
 -- the state, is read by s3w2-load as `loaded`, with the RAM and the second half behind it; and the whole log prints the first half's lines and then those that the second
 -- half prints from there.
 pub record CutLog (first : List (List ℕ)) (second : List ℕ) : Type 0 where
-  pub read : readLines false 9 0 (freshPlayer 65536) 65536 (replicate queueBuffer (pos 0)) (skipped (soundsOf freshWorld [] (half first) ++ (stateText (played freshWorld first) ++ second)))
+  pub read : readLines false lineCount 0 (freshPlayer 65536) 65536 (replicate chipQueues (pos 0)) (skipped (soundsOf freshWorld [] (half first) ++ (stateText (played freshWorld first) ++ second)))
       ≡ load.loaded (loaded (played freshWorld first) .player) (loaded (played freshWorld first) .queues) (played freshWorld first .ram ++ second)
   pub heard : soundsOf freshWorld [] (half first ++ second)
       ≡ soundsOf freshWorld [] (half first) ++ soundsOf (world (loaded (played freshWorld first) .player) (played freshWorld first .ram) (loaded (played freshWorld first) .queues)) [] second

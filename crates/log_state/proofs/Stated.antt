@@ -8,10 +8,10 @@ use lib.Dec.{eqb, ltb}
 use lib.IntN.{ℤ, pos, negsuc}
 use lib.ListN.{length, take, drop, getD, length-append}
 use lib.Seq.{sets, take-append-seam, drop-append-seam}
-use borrow.Author.Tests.{eq-eqb, ne-eqb, le-leb, lt-leb}
-use Rattle.sizes.specs.Sizes.{queueBuffer}
+use borrow.Author.Tests.{eq-eqb, ne-eqb, le-leb, lt-leb, lt-ltb}
+use Rattle.cores.specs.Sizes.{chipVoices, chipQueues}
 use Rattle.decimal.specs.Written.{digitsIn, decimal, render}
-use Rattle.decimal.specs.Read.{digitsOf, naturalAt}
+use Rattle.decimal.specs.Read.{naturalAt}
 use Rattle.decimal.specs.declared.TakenNatural.{TakenNatural}
 use Rattle.decimal.specs.declared.TakenNatural.the-variants.{Natural}
 use Rattle.decimal.proofs.RoundTrip.{natural-back}
@@ -34,12 +34,12 @@ use Rattle.session.specs.Voices.{lineOfVoice, writeVoiceAnswer, writeVoiceText,
 use Rattle.log_player.specs.declared.Player.{Player}
 use Rattle.log_player.specs.Steps.{firstLine}
 use Rattle.log_state.specs.declared.Found.the-variants.{Line}
-use Rattle.log_state.specs.Lines.{stateLine, putLineAnswer, putLineText, takenBy, isNatural, ownLine, takeLine, takeLineQueues}
+use Rattle.log_state.specs.Lines.{stateLine, lineCount, putLineAnswer, putLineText, takenBy, isNatural, ownLine, takeLine, takeLineQueues}
 use Rattle.log_state.specs.Loads.{frontLine, behindLine, goesOn, readLines}
 use Rattle.log_state.specs.Finding.{soundLine, foundAt}
 
 -- ---- a line of an accepted state is written where there is room for it
-module _ (chip : Chip) (ram : ℕ) (queues : List ℤ) (r : isRamLength ram ≡ true) (l : acceptsChip chip ram ≡ true) (a : stateAccepted chip ≡ true) (q : length queues ≡ queueBuffer) where
+module _ (chip : Chip) (ram : ℕ) (queues : List ℤ) (r : isRamLength ram ≡ true) (l : acceptsChip chip ram ≡ true) (a : stateAccepted chip ≡ true) (q : length queues ≡ chipQueues) where
   written : (out text : List ℕ) → length text ≤ length out → (wrote (writtenOf out text) ≡ Written (length text)) × (putOf out text ≡ sets out 0 text)
   written out text h = rw (le-leb (length text) (length out) h) (refl, refl)
 
@@ -122,9 +122,9 @@ head-ended version ram =
           (both (d ∷ []) (44 ∷ decimal ram) (one d (omega arith)) (both (44 ∷ []) (decimal ram) (one 44 (omega arith)) (decimal-goes ram)))))));
     }
 
-voice-ended : (chip : Chip) (queues : List ℤ) (ch : ℕ) → ch ≤ 7 → Ended (lineOfVoice chip queues ch)
+voice-ended : (chip : Chip) (queues : List ℤ) (voice : ℕ) → voice < chipVoices → Ended (lineOfVoice chip queues voice)
 unfolding lineOfVoice voiceText
-voice-ended chip queues ch h = rw (le-leb ch 7 h) (line-ended _)
+voice-ended chip queues voice h = rw (lt-ltb voice chipVoices h) (line-ended _)
 
 -- ---- where a line stands, all of it is found
 module _ (line rest : List ℕ) (e : Ended line) where
@@ -163,7 +163,7 @@ module _ (line rest : List ℕ) (e : Ended line) where
       (ap Line (omega (arith, size)))
 
 module _ (chip : Chip) (ram : ℕ) (queues : List ℤ) (k : ℕ) where
-  pub state-ended : k ≤ 8 → Ended (stateLine chip ram queues k)
+  pub state-ended : k < lineCount → Ended (stateLine chip ram queues k)
   unfolding stateLine
   state-ended h = go (eqb k 0) refl
     where
@@ -179,7 +179,7 @@ module _ (chip : Chip) (ram : ℕ) (queues : List ℤ) (k : ℕ) where
       go true e = rw e
       go false e = rw e
 
-  pub state-found : (at : ℕ) (rest : List ℕ) → k ≤ 8 → foundAt (stateLine chip ram queues k ++ rest) at k ≡ Line (at + length (stateLine chip ram queues k))
+  pub state-found : (at : ℕ) (rest : List ℕ) → k < lineCount → foundAt (stateLine chip ram queues k ++ rest) at k ≡ Line (at + length (stateLine chip ram queues k))
   state-found at rest h = found (stateLine chip ram queues k) rest (state-ended h) at k (no-sound rest)
 
 -- ---- a line read as the voice's that its first field names
@@ -226,6 +226,6 @@ module _ (chip : Chip) (ram : ℕ) (queues : List ℤ) where
       ∙ ap (lineOfVoice chip queues) (omega arith)
 
   -- the line of a voice begins with its number
-  pub voice-own : (i : ℕ) → i ≤ 7 → ownLine i (stateLine chip ram queues (suc i)) ≡ lineOfVoice chip queues i
+  pub voice-own : (i : ℕ) → i < chipVoices → ownLine i (stateLine chip ram queues (suc i)) ≡ lineOfVoice chip queues i
   unfolding lineOfVoice voiceText fieldNumbers stateNumbers
-  voice-own i h = ap (ownLine i) (voice-line i) ∙ rw (le-leb i 7 h) (own-text i _ _ (omega arith))
+  voice-own i h = ap (ownLine i) (voice-line i) ∙ rw (lt-ltb i chipVoices h) (own-text i _ _ (omega arith))

@@ -1,10 +1,11 @@
 -- The lines of a state, written and read.
 use mathlib.Core.Bool.{Bool, false, cond}
 use mathlib.Core.List.{List, [], _++_}
-use Prim.Native.Nat.{ℕ, zero, suc, _-_}
+use Prim.Native.Nat.{ℕ, zero, suc, _+_, _-_}
 use lib.Dec.{eqb}
 use lib.IntN.{ℤ}
 use lib.ListN.{length}
+use Rattle.cores.specs.Sizes.{chipVoices}
 use Rattle.decimal.specs.Read.{naturalAt}
 use Rattle.decimal.specs.declared.TakenNatural.{TakenNatural}
 use Rattle.decimal.specs.declared.TakenNatural.the-variants.{Natural, NoNatural}
@@ -27,9 +28,13 @@ abbrev pub stateLines : Chip → ℕ → List ℤ → ℕ → ℕ → List ℕ
 stateLines chip ram queues zero k = []
 stateLines chip ram queues (suc n) k = stateLine chip ram queues k ++ stateLines chip ram queues n (suc k)
 
--- the nine lines, then the bytes of the RAM
+-- the head and a line for each voice
+abbrev pub lineCount : ℕ
+lineCount = 1 + chipVoices
+
+-- the lines, then the bytes of the RAM
 abbrev pub stateText : World → List ℕ
-stateText w = stateLines (w .player .chip) (length (w .ram)) (w .queues) 9 0 ++ w .ram
+stateText w = stateLines (w .player .chip) (length (w .ram)) (w .queues) lineCount 0 ++ w .ram
 
 -- ---- a line written into a buffer
 

@@ -1,8 +1,9 @@
-// The state of a player as text: the nine lines of its session, the head and one for each voice, and then the bytes of its RAM.
+// The state of a player as text: the lines of its session, the head and one for each voice, and then the bytes of its RAM.
 mod finding;
 mod lines;
 mod refusing;
 
+use cores::CHIP_VOICES;
 pub use finding::find;
 pub use lines::put_line;
 pub use lines::take_line;
@@ -10,6 +11,9 @@ use log_player::Player;
 pub use refusing::put_refusal;
 pub use refusing::put_short;
 use session::LineAnswer;
+
+// The lines: the head, and one for each voice.
+pub const LINES: usize = 1 + CHIP_VOICES;
 
 // A player after a line was read, and what reading it answered.
 pub struct Taken {

@@ -1,5 +1,4 @@
--- A chip over a model of voices: version, RAM and eight voices, and what each call does to it. Over slots it is the chip with its
--- lent buffers, over plain voices document 01's plain chip.
+-- A core over a model of voices: eight voices with the version and the RAM, and what each call does to them.
 use mathlib.Core.Bool.{Bool, true, false, cond}
 use mathlib.Core.List.{List, map}
 use Prim.Native.Nat.{ℕ, _+_, _-_, _/_, _%_}
@@ -9,7 +8,7 @@ use Rattle.sizes.specs.Sizes.{numChannels, registersEnd, wavetablesSize}
 use Rattle.version.specs.Versions.{has3ws8pna, hasSampleControl, interpolates, wavetableMaskOf}
 use Rattle.version.specs.declared.SguVersion.{SguVersion}
 use Rattle.registers.specs.Pcm.{readPcm}
-use Rattle.plain_chip.specs.Voices.{PlainVoice, freshVoice, plainRead}
+use Rattle.plain_chip.specs.Voices.{PlainVoice, plainRead}
 use Rattle.plain_chip.specs.Models.{Model}
 use Rattle.plain_chip.specs.Frames.{ModelTurns, noTurn, turned, frames}
 use Rattle.plain_chip.specs.Lists.{adjust}
@@ -18,13 +17,6 @@ pub record ModelChip (A : Type 0) : Type 0 where
   pub version : SguVersion
   pub ram : List ℕ
   pub voices : List A
-
-abbrev pub Plain : Type 0
-Plain = ModelChip PlainVoice
-
--- one just made, over a RAM of that length: the RAM is zeroed
-abbrev pub freshPlain : SguVersion → ℕ → Plain
-freshPlain version size = record { version = version; ram = replicate size 0; voices = replicate numChannels freshVoice }
 
 abbrev pub withVoices : {A : Type 0} → ModelChip A → List A → ModelChip A
 withVoices c l = record { version = c .version; ram = c .ram; voices = l }
@@ -114,13 +106,10 @@ module _ {A : Type 0} (m : Model A) where
       (cond (ltb address registersEnd) (afterReadChannel (channelOf address) (offsetOf address) c)
       c)
 
-  -- ---- the RAM; past its end nothing is written, and 0 is read
+  -- ---- the RAM; past its end nothing is written
   unfoldable pub writePcmRam : ℕ → ℕ → ModelChip A → ModelChip A
   writePcmRam address value c =
       cond (ltb address (length (c .ram))) (record { version = c .version; ram = set (c .ram) address value; voices = map (m .poked address) (c .voices) }) c
-
-  abbrev pub readPcmRam : ℕ → ModelChip A → ℕ
-  readPcmRam address c = getD (c .ram) address 0
 
   -- ---- sound: `generate_sample` is one tick of one voice, `clock` some frames of all
   unfoldable pub generated : ℕ → ModelChip A → ModelTurns A

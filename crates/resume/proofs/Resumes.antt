@@ -5,7 +5,7 @@ use mathlib.Core.List.{List}
 use Prim.Native.Nat.{ℕ}
 use lib.IntN.{ℤ}
 use lib.ListN.{length, replicate}
-use Rattle.sizes.specs.Sizes.{queueBuffer}
+use Rattle.cores.specs.Sizes.{chipQueues}
 use Rattle.tone.specs.Pcm.{isRamLength}
 use Rattle.version.specs.declared.SguVersion.{SguVersion}
 use Rattle.registers.specs.PlainQueue.{FitEntries}
@@ -16,12 +16,12 @@ use Rattle.s3w2.specs.Fresh.{madeCalled, madeRam}
 use Rattle.s3w2.specs.Refusals.{refusal}
 use Rattle.plain_chip.specs.Lists.{Every}
 use Rattle.slots.specs.Models.{plain}
-use Rattle.plain_chip.specs.Chips.{freshPlain}
+use Rattle.pair_chip.specs.Pairs.{freshPlain}
 use Rattle.call_lists.specs.Calls.{Call}
 use Rattle.call_lists.specs.Seen.{FitCall}
 use Rattle.chip_calls.specs.Ties.{Machine}
 use Rattle.chip_calls.proofs.Made.{made-held, made-plain}
-use Rattle.resume.specs.Stops.{seen, resumed, made, Second, ofPlain, slotChipIn, stopped, plainStopped, Resumes, Deed, Life, ofLife, callsOf}
+use Rattle.resume.specs.Stops.{seen, resumed, made, Second, ofPlain, slotPairIn, stopped, plainStopped, Resumes, Deed, Life, ofLife, callsOf}
 use Rattle.resume.proofs.Steps.{HeldMachine}
 use Rattle.resume.proofs.Lives.{Lived, lived-after, lived-trace, lived-resume, same-text, all-done, lived-life}
 
@@ -31,12 +31,12 @@ unfolding madeCalled madeRam refusal
 made-fresh version ram queues e = λ i. record { chip = freshChip version; ram = cond (isDone (cond (e i) Done RamLength)) (replicate (length ram) 0) ram; queues = queues }
 
 -- it is a fresh plain chip
-made-lived : (version : SguVersion) (ram : List ℕ) (queues : List ℤ) → isRamLength (length ram) ≡ true → length queues ≡ queueBuffer → FitEntries queues → Lived (made version ram queues) (freshPlain version (length ram))
+made-lived : (version : SguVersion) (ram : List ℕ) (queues : List ℤ) → isRamLength (length ram) ≡ true → length queues ≡ chipQueues → FitEntries queues → Lived (made version ram queues) (freshPlain version (length ram))
 made-lived version ram queues allowed long entries =
     let e = made-fresh version ram queues allowed in
     record {
       held = subst HeldMachine (sym e) (made-held version (length ram) queues long allowed entries);
-      same = ap (λ (m : Machine). plain (slotChipIn m)) e ∙ made-plain version (length ram) queues long;
+      same = ap (λ (m : Machine). plain (slotPairIn m)) e ∙ made-plain version (length ram) queues long;
     }
 
 -- THE THEOREM, for every version, every RAM of an allowed length, every list of calls and every place in it where it is stopped, its two ends
@@ -44,7 +44,7 @@ made-lived version ram queues allowed long entries =
 -- a byte.
 pub resumes :
     (version : SguVersion) (ram : List ℕ) (queues : List ℤ) (xs ys : List Call) (second : Machine) →
-    isRamLength (length ram) ≡ true → length queues ≡ queueBuffer → FitEntries queues → Every FitCall xs → Every FitCall ys →
+    isRamLength (length ram) ≡ true → length queues ≡ chipQueues → FitEntries queues → Every FitCall xs → Every FitCall ys →
     Second (stopped version ram queues xs) second →
     Resumes version ram queues xs ys second
 resumes version ram queues xs ys second allowed long entries fx fy s =
@@ -65,6 +65,6 @@ resumes version ram queues xs ys second allowed long entries fx fy s =
 -- is seen of the plain chip that runs them.
 pub lives :
     (version : SguVersion) (ram : List ℕ) (queues : List ℤ) (ds : List Deed) →
-    isRamLength (length ram) ≡ true → length queues ≡ queueBuffer → FitEntries queues → Life (made version ram queues) ds →
+    isRamLength (length ram) ≡ true → length queues ≡ chipQueues → FitEntries queues → Life (made version ram queues) ds →
     ofLife (made version ram queues) ds ≡ ofPlain (freshPlain version (length ram)) (callsOf ds)
 lives version ram queues ds allowed long entries f = lived-life (made version ram queues) (freshPlain version (length ram)) ds f (made-lived version ram queues allowed long entries)

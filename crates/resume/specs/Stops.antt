@@ -5,27 +5,27 @@ use mathlib.Core.List.{List, [], _∷_, map}
 use Prim.Native.Nat.{ℕ}
 use lib.IntN.{ℤ}
 use lib.ListN.{length, replicate}
-use Rattle.sizes.specs.Sizes.{numChannels, queueBuffer}
+use Rattle.cores.specs.Sizes.{chipVoices, chipQueues}
 use Rattle.version.specs.declared.SguVersion.{SguVersion}
 use Rattle.session_lines.specs.Head.{headText}
 use Rattle.s3w2.specs.Fresh.{madeCalled, madeRam}
 use Rattle.s3w2.specs.Refusals.{acceptsChip}
 use Rattle.session.specs.Voices.{lineOfVoice}
 use Rattle.plain_chip.specs.Models.{plains}
-use Rattle.plain_chip.specs.Chips.{Plain, freshPlain}
-use Rattle.slots.specs.Models.{SlotChip, plain}
+use Rattle.pair_chip.specs.Pairs.{Plain, freshPlain}
+use Rattle.slots.specs.Models.{SlotPair, plain}
 use Rattle.chip_as_slots.specs.Whole.{row}
 use Rattle.call_lists.specs.Runs.{Outcome, after, trace}
 use Rattle.call_lists.specs.Calls.{CallAnswer, Call, readHead, readVoice, replies, done, run}
 use Rattle.call_lists.specs.Seen as calls
 use Rattle.call_lists.specs.Seen.{Seen, FitCall}
 use Rattle.session_texts.specs.Session.{session}
-use Rattle.chip_calls.specs.Ties.{slotChip, Machine, Typed}
+use Rattle.chip_calls.specs.Ties.{slotPair, Machine, Typed}
 use Rattle.chip_calls.specs.Code.{code}
 
 -- the session text that `write_head` and `write_voice` write, and the RAM
 abbrev pub seen : Machine → Seen
-seen m = record { head = headText (m .chip .version) (length (m .ram)); lines = row numChannels (lineOfVoice (m .chip) (m .queues)); ram = m .ram }
+seen m = record { head = headText (m .chip .version) (length (m .ram)); lines = row chipVoices (lineOfVoice (m .chip) (m .queues)); ram = m .ram }
 
 -- a chip that reads a session's head and then its voice lines, in order
 abbrev pub reading : Seen → List Call
@@ -41,8 +41,8 @@ made version ram queues = record { chip = madeCalled (length ram) version .chip;
 -- a second chip: in any accepted state, with a queue buffer of its own and a copy of the RAM
 pub record Second (first second : Machine) : Type 0 where
   pub accepted : acceptsChip (second .chip) (length (second .ram)) ≡ true
-  pub typed : Typed (second .chip .core) (second .queues)
-  pub long : length (second .queues) ≡ queueBuffer
+  pub typed : Typed (second .chip) (second .queues)
+  pub long : length (second .queues) ≡ chipQueues
   pub copy : second .ram ≡ first .ram
 
 -- ---- what is seen of calls: each answer with the values ahead of the volume of its ticks, then the session text and the RAM
@@ -56,8 +56,8 @@ ofPlain p cs = trace (run plains session) (calls.seenOver plains session) p cs
 abbrev pub answersOf : List (Outcome Seen CallAnswer) → List CallAnswer
 answersOf l = map (λ (r : Outcome Seen CallAnswer). r .answer) l
 
-abbrev pub slotChipIn : Machine → SlotChip
-slotChipIn m = slotChip (m .chip) (m .ram) (m .queues)
+abbrev pub slotPairIn : Machine → SlotPair
+slotPairIn m = slotPair (m .chip) (m .ram) (m .queues)
 
 -- A chip is made and runs xs; there it is stopped. It goes on with ys; so does a second chip that reads its session text, and the plain
 -- chip that ran xs too.
@@ -76,8 +76,8 @@ module _ (version : SguVersion) (ram : List ℕ) (queues : List ℤ) (xs : List 
     pub goes-on : ofChip (resumed second (seen stopped)) ys ≡ ofChip stopped ys
     pub as-plain : ofChip stopped ys ≡ ofPlain plainStopped ys
     pub before : ofChip (made version ram queues) xs ≡ ofPlain plainStart xs
-    -- the second chip takes the head and the eight lines, and its text is then the first's
-    pub taken : answersOf (ofChip second (reading (seen stopped))) ≡ replicate 9 (replies done)
+    -- the second chip takes the head and the sixteen lines, and its text is then the first's
+    pub taken : answersOf (ofChip second (reading (seen stopped))) ≡ replicate 17 (replies done)
     pub same-text : seen (resumed second (seen stopped)) ≡ seen stopped
 
 -- ---- any number of resumes: a score that goes on, call by call, and now and then over to another chip
@@ -110,4 +110,4 @@ pub record SameTexts (one two : Machine) : Type 0 where
 pub record SameFields (one two : Machine) : Type 0 where
   pub version : one .chip .version ≡ two .chip .version
   pub size : length (one .ram) ≡ length (two .ram)
-  pub voices : plain (slotChipIn one) .voices ≡ plain (slotChipIn two) .voices
+  pub cores : plain (slotPairIn one) .cores ≡ plain (slotPairIn two) .cores

@@ -1,16 +1,21 @@
--- Where the sum of a frame's stems lies on a side. Assumes nothing beyond the ranges that the types give.
+-- Where the sum of a frame's stems lies on a side, of one core and of both. Assumes nothing beyond the ranges that the types give.
 use mathlib.Core.Path.{_≡_, subst}
 use mathlib.Core.Bool.{true}
 use mathlib.Core.List.{List, [], _∷_, _++_}
-use Prim.Native.Nat.{ℕ, zero, suc, _+_, _*_, _%_, _≤_}
+use Prim.Native.Nat.{ℕ, zero, suc, _+_, _*_, _%_, _≤_, _<_}
 use native.Mathlib.Omega.{arith}
-use lib.IntN.{ℤ, pos}
-use lib.ListN.{length, getD}
-use Rattle.sizes.specs.Sizes.{fifoCapacity, numChannels}
+use lib.Dec.{ltb}
+use lib.IntN.{ℤ, pos, _+ℤ_}
+use lib.ListN.{length, getD, replicate}
+use Rattle.sizes.specs.Sizes.{fifoCapacity, numChannels, stemsPerFrame}
+use Rattle.cores.specs.Sizes.{numCores}
 use Rattle.num.specs.Integers.{up, down}
+use Rattle.num.proofs.Choice.{cond-by}
+use Rattle.num.proofs.Integers.{z-add, one-zero}
 use Rattle.tone.specs.Sides.{Ticks}
 use Rattle.tone.proofs.Sides.{ticks-none, ticks-wider}
 use Rattle.version.specs.declared.SguVersion.{SguVersion}
+use Rattle.version.specs.Versions.{coreCount}
 use Rattle.registers.specs.PlainQueue.{FitEntries}
 use Rattle.ticks.specs.Mix.{silence}
 use Rattle.ticks.specs.declared.Sides.{Sides}
@@ -21,11 +26,15 @@ use Rattle.frames.specs.Ticking.{voiced, voiceTicks}
 use Rattle.frames.specs.Turning.{Turns, turned, frame, frames}
 use Rattle.frames.proofs.Framing.{frames-turns}
 use Rattle.frames.proofs.Wells.{Well, turned-room}
-use Rattle.sides.specs.Sides.{sideSum}
+use Rattle.sides.specs.Sides.{sideSum, sideOf}
+use Rattle.sides.proofs.Frames.{side-by}
 use Rattle.s3w2.specs.declared.Chip.{Chip}
 use Rattle.s3w2.specs.Refusals.{acceptsChip}
-use Rattle.s3w2.specs.Mixing.{Mix, mixed}
-use Rattle.s3w2.proofs.Kept.{FitChip, part-fits, mixed-well, chip-well}
+use Rattle.s3w2.specs.Chips.{coreAt, coreQueues}
+use Rattle.s3w2.specs.Sound.{silentTurns, coreFrames}
+use Rattle.s3w2.proofs.Fits.{FitChip}
+use Rattle.s3w2.proofs.Kept.{part-fits}
+use Rattle.s3w2.proofs.KeptSound.{own-entries, chip-well}
 
 -- -131,072 to 131,040
 pub record Frame (z : ℤ) : Type 0 where
@@ -75,12 +84,34 @@ module _ (version : SguVersion) (ram : List ℕ) (queues : List ℤ) (bytes : Ea
       subst (λ (t : Turns). Frame (sideSum numChannels (t .stems) from)) (frames-turns version ram queues core m)
       (side-frame (turned version ram queues 0 4 (8 * m) core .stems) (turned-ticks 4 (omega arith) (omega arith) 0 core w (8 * m)) from)
 
-  -- the frame that is mixed after n others
-  pub mixed-side : (plus : ℤ → ℤ → ℤ) (start : Mix) → Well version (length ram) (start .core) → (n hand : ℕ)
-      → Frame (sideSum numChannels (frame version ram queues (mixed plus version ram queues n start .core) .stems) hand)
-  mixed-side plus start w n hand = frame-side (mixed plus version ram queues n start .core) (mixed-well version ram queues bytes entries plus start w n) hand
+-- ---- both cores
+-- -262,144 to 262,080
+pub record PairFrame (z : ℤ) : Type 0 where
+  pub high : up z ≤ 262080
+  pub low : down z ≤ 262144
 
--- a frame of an accepted chip
-pub chip-side : (chip : Chip) (ram : List ℕ) (queues : List ℤ) → acceptsChip chip (length ram) ≡ true → FitChip chip → EachByte ram → FitEntries queues → (hand : ℕ)
-    → Frame (sideSum numChannels (frame (chip .version) ram queues (chip .core) .stems) hand)
-chip-side chip ram queues ok fits bytes entries hand = frame-side (chip .version) ram queues bytes entries (chip .core) (chip-well chip ram queues ok fits bytes entries) hand
+alone-frame : (x : ℤ) → Frame x → PairFrame x
+alone-frame x f = record { high = omega (arith, f .high); low = omega (arith, f .low) }
+
+both-frame : (x y : ℤ) → Frame x → Frame y → PairFrame (x +ℤ y)
+both-frame x y f g = record { high = omega (arith, z-add x y, one-zero (x +ℤ y), f .high, g .high); low = omega (arith, z-add x y, one-zero (x +ℤ y), f .low, g .low) }
+
+zeros : (k i : ℕ) → Ticks 4 (getD (replicate k (pos 0)) i (pos 0))
+zeros zero i = none
+zeros (suc k) zero = none
+zeros (suc k) (suc i) = zeros k i
+
+module _ (chip : Chip) (ram : List ℕ) (queues : List ℤ) (ok : acceptsChip chip (length ram) ≡ true) (fits : FitChip chip) (bytes : EachByte ram) (entries : FitEntries queues) where
+  -- core k's part of each of n frames
+  pub core-side : (n k : ℕ) → k < numCores → (from : ℕ) → Frame (sideSum numChannels (coreFrames chip ram queues n k .stems) from)
+  core-side n k h from =
+      cond-by (λ (t : Turns). Frame (sideSum numChannels (t .stems) from)) (ltb k (coreCount (chip .version))) (frames (chip .version) ram (coreQueues k queues) n (coreAt chip k)) (silentTurns n (coreAt chip k))
+      (λ _. frames-side (chip .version) ram (coreQueues k queues) bytes (own-entries chip ram queues ok fits bytes entries k) (coreAt chip k) (chip-well chip ram queues ok fits bytes entries k h) n from)
+      (λ _. side-frame (replicate (stemsPerFrame * n) (pos 0)) (zeros (stemsPerFrame * n)) from)
+
+  -- frame i of n, before clamping
+  pub pair-side : (n i hand : ℕ) → PairFrame (sideOf i hand (coreFrames chip ram queues n 0 .stems) (coreFrames chip ram queues n 1 .stems))
+  pair-side n i hand =
+      let one = core-side n 0 (omega arith) (stemsPerFrame * i + hand) in
+      let two = core-side n 1 (omega arith) (stemsPerFrame * i + hand) in
+      side-by PairFrame (coreFrames chip ram queues n 0 .stems) (coreFrames chip ram queues n 1 .stems) hand i (λ _. both-frame _ _ one two) (λ _. alone-frame _ one)

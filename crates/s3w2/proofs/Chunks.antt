@@ -1,71 +1,87 @@
--- Frames added some at a time. Assumes nothing.
+-- Frames some at a time: voices, stems, and the stems of both cores paired or added to a side. Assumes nothing.
 use mathlib.Core.Path.{_≡_, refl, sym, ap, _∙_}
-use mathlib.Core.List.{List, _++_}
+use mathlib.Core.Bool.{Bool, true, false, cond}
+use mathlib.Core.List.{List, [], _∷_, _++_, append-nil, append-assoc}
 use Prim.Native.Nat.{ℕ, zero, suc, _+_, _*_, _≤_}
 use native.Mathlib.Omega.{arith}
 use lib.IntN.{ℤ, pos}
-use lib.ListN.{length, List·getD-append}
-use lib.Seq.{getD-append-add}
-use Rattle.sizes.specs.Sizes.{numChannels, stemsPerFrame}
+use lib.ListN.{length, take, drop, replicate, length-append, length-take, length-drop, length-replicate}
+use lib.Seq.{take-append-le, drop-append-le}
+use Rattle.sizes.specs.Sizes.{stemsPerFrame}
+use Rattle.cores.specs.Sizes.{chipStems}
+use Rattle.cores.specs.Stems.{paired}
 use Rattle.version.specs.declared.SguVersion.{SguVersion}
-use Rattle.sides.specs.Sides.{sideSum, addedTo}
+use Rattle.voices.specs.declared.Core.{Core}
+use Rattle.sides.specs.Sides.{addedTo}
+use Rattle.sides.proofs.Frames.{added-append, added-silent}
 use Rattle.frames.specs.Turning.{frame, frames}
-use Rattle.frames.proofs.Framing.{frames-long}
-use Rattle.s3w2.specs.Mixing.{Mix, mix, added, mixed}
 
--- ---- stems with others after them, and before them
-sum-first : (l r : List ℤ) (from n : ℕ) → from + 2 * n ≤ length l + 1 → sideSum n (l ++ r) from ≡ sideSum n l from
-unfolding sideSum
-sum-first l r from zero h = refl
-sum-first l r from (suc n) h = rw (sum-first l r from n (omega arith), List·getD-append l r (pos 0) (from + 2 * n) (omega arith)) refl
+pub no-more : {A : Type 0} (l : List A) → length l ≡ 0 → l ≡ []
+no-more [] h = refl
+no-more (x ∷ l) h = absurd (omega (arith, h))
 
-sum-second : (l r : List ℤ) (from n : ℕ) → sideSum n (l ++ r) (length l + from) ≡ sideSum n r from
-unfolding sideSum
-sum-second l r from zero = refl
-sum-second l r from (suc n) =
-    let e : length l + from + 2 * n ≡ length l + (from + 2 * n) = omega arith in
-    rw (sum-second l r from n, e, getD-append-add l r (from + 2 * n) (pos 0)) refl
+-- ---- k frames, and c more of the core that they leave
+module _ (version : SguVersion) (ram : List ℕ) (queues : List ℤ) (core : Core) (k : ℕ) where
+  abbrev left : Core
+  left = frames version ram queues k core .core
 
-module _ (plus : ℤ → ℤ → ℤ) (l r : List ℤ) (hand first : ℕ) (one : hand ≤ 1) (side : List ℤ) where
-  pub added-first : (n : ℕ) → stemsPerFrame * n ≤ length l → addedTo plus n (l ++ r) hand first side ≡ addedTo plus n l hand first side
-  unfolding addedTo
-  added-first zero h = refl
-  added-first (suc n) h = rw (added-first n (omega arith), sum-first l r (stemsPerFrame * n + hand) 8 (omega arith)) refl
+  pub more-core : (c : ℕ) → frames version ram queues (k + c) core .core ≡ frames version ram queues c left .core
+  unfolding frames
+  more-core zero =
+      let e : k + 0 ≡ k = omega arith in
+      ap (λ (m : ℕ). frames version ram queues m core .core) e
+  more-core (suc c) =
+      let e : k + suc c ≡ suc (k + c) = omega arith in
+      ap (λ (m : ℕ). frames version ram queues m core .core) e ∙ ap (λ (x : Core). frame version ram queues x .core) (more-core c)
 
-  pub added-last : (n : ℕ) → length l ≡ stemsPerFrame * n
-      → addedTo plus (suc n) (l ++ r) hand first side ≡ added plus (addedTo plus n l hand first side) (first + n) (sideSum numChannels r hand)
-  unfolding addedTo
-  added-last n h = rw (added-first n (omega arith), sym h, sum-second l r hand 8) refl
+  pub more-stems : (c : ℕ) → frames version ram queues (k + c) core .stems ≡ frames version ram queues k core .stems ++ frames version ram queues c left .stems
+  unfolding frames
+  more-stems zero =
+      let e : k + 0 ≡ k = omega arith in
+      ap (λ (m : ℕ). frames version ram queues m core .stems) e ∙ sym (append-nil (frames version ram queues k core .stems))
+  more-stems (suc c) =
+      let e : k + suc c ≡ suc (k + c) = omega arith in
+      let last : Core → List ℤ = λ (x : Core). frame version ram queues x .stems in
+      ap (λ (m : ℕ). frames version ram queues m core .stems) e
+      ∙ ap (λ (l : List ℤ). l ++ last (frames version ram queues (k + c) core .core)) (more-stems c)
+      ∙ ap (λ (x : Core). (frames version ram queues k core .stems ++ frames version ram queues c left .stems) ++ last x) (more-core c)
+      ∙ append-assoc (frames version ram queues k core .stems) (frames version ram queues c left .stems) (last (frames version ram queues c left .core))
 
-module _ (version : SguVersion) (ram : List ℕ) (queues : List ℤ) where
-  module _ (plus : ℤ → ℤ → ℤ) (k : ℕ) where
-    -- c frames added at once, from place k on
-    abbrev pub chunk : ℕ → Mix → Mix
-    chunk c b =
-        let f = frames version ram queues c (b .core) in
-        mix (f .core) (addedTo plus c (f .stems) 0 k (b .left)) (addedTo plus c (f .stems) 1 k (b .right))
+-- ---- stems of both cores
+pub paired-append : (a b : List ℤ) (c k : ℕ) (x y : List ℤ) → length x ≡ stemsPerFrame * k → length y ≡ stemsPerFrame * k → paired (k + c) (x ++ a) (y ++ b) ≡ paired k x y ++ paired c a b
+unfolding paired
+paired-append a b c zero x y ex ey =
+    let e : 0 + c ≡ c = omega arith in
+    rw (no-more x (omega (arith, ex)), no-more y (omega (arith, ey)), e) refl
+paired-append a b c (suc k) x y ex ey =
+    let e : suc k + c ≡ suc (k + c) = omega arith in
+    let lx : length (drop 16 x) ≡ 16 * k = length-drop 16 x ∙ omega (arith, ex) in
+    let ly : length (drop 16 y) ≡ 16 * k = length-drop 16 y ∙ omega (arith, ey) in
+    ap (λ (m : ℕ). paired m (x ++ a) (y ++ b)) e
+    ∙ rw (take-append-le 16 x a (omega (arith, ex)), take-append-le 16 y b (omega (arith, ey)), drop-append-le 16 x a (omega (arith, ex)), drop-append-le 16 y b (omega (arith, ey)), paired-append a b c k (drop 16 x) (drop 16 y) lx ly) refl
+    ∙ sym (append-assoc (take 16 x) (take 16 y ++ paired k (drop 16 x) (drop 16 y)) (paired c a b) ∙ ap (λ (l : List ℤ). take 16 x ++ l) (append-assoc (take 16 y) (paired k (drop 16 x) (drop 16 y)) (paired c a b)))
 
-    -- one frame more, at place n
-    abbrev next : ℕ → Mix → Mix
-    next n a =
-        let f = frame version ram queues (a .core) in
-        mix (f .core) (added plus (a .left) n (sideSum numChannels (f .stems) 0)) (added plus (a .right) n (sideSum numChannels (f .stems) 1))
+pub paired-length : (n : ℕ) (a b : List ℤ) → length a ≡ stemsPerFrame * n → length b ≡ stemsPerFrame * n → length (paired n a b) ≡ chipStems * n
+unfolding paired
+paired-length zero a b ea eb = refl
+paired-length (suc n) a b ea eb =
+    let la : length (drop 16 a) ≡ 16 * n = length-drop 16 a ∙ omega (arith, ea) in
+    let lb : length (drop 16 b) ≡ 16 * n = length-drop 16 b ∙ omega (arith, eb) in
+    let p = paired n (drop 16 a) (drop 16 b) in
+    length-append (take 16 a) (take 16 b ++ p) ∙ rw (length-append (take 16 b) p, length-take 16 a, length-take 16 b, paired-length n (drop 16 a) (drop 16 b) la lb) (omega (arith, ea, eb))
 
-    chunk-next : (b : Mix) (c : ℕ) → next (k + c) (chunk c b) ≡ chunk (suc c) b
-    unfolding frames
-    chunk-next b c =
-        let f = frames version ram queues c (b .core) in
-        let g = frame version ram queues (f .core) in
-        let l = sym (added-last plus (f .stems) (g .stems) 0 k (omega arith) (b .left) c (frames-long version ram queues (b .core) c)) in
-        let r = sym (added-last plus (f .stems) (g .stems) 1 k (omega arith) (b .right) c (frames-long version ram queues (b .core) c)) in
-        λ i. record { core = g .core; left = l i; right = r i }
+-- ---- on a side: k frames and then c, where the second core has all of them, or none
+module _ (plus : ℤ → ℤ → ℤ) (hand first k c : ℕ) (one : hand ≤ 1) (side a more : List ℤ) (ea : length a ≡ stemsPerFrame * k) where
+  abbrev Parts : List ℤ → List ℤ → Type 0
+  Parts b others = addedTo plus (k + c) (a ++ more) (b ++ others) hand first side ≡ addedTo plus c more others hand (first + k) (addedTo plus k a b hand first side)
 
-    -- c frames after k of them, all at once
-    pub mixed-chunk : (m : Mix) (c : ℕ) → mixed plus version ram queues (k + c) m ≡ chunk c (mixed plus version ram queues k m)
-    unfolding mixed frames addedTo
-    mixed-chunk m zero =
-        let e : k + 0 ≡ k = omega arith in
-        ap (λ (n : ℕ). mixed plus version ram queues n m) e
-    mixed-chunk m (suc c) =
-        let e : k + suc c ≡ suc (k + c) = omega arith in
-        ap (λ (n : ℕ). mixed plus version ram queues n m) e ∙ ap (next (k + c)) (mixed-chunk m c) ∙ chunk-next (mixed plus version ram queues k m) c
+  alone : Parts [] []
+  alone =
+      let zeros = replicate (stemsPerFrame * k) (pos 0) in
+      sym (ap (λ (l : List ℤ). addedTo plus (k + c) (a ++ more) l hand first side) (append-nil zeros) ∙ added-silent plus (a ++ more) hand first side (k + c) (stemsPerFrame * k))
+      ∙ added-append a more zeros [] hand k one ea (length-replicate (stemsPerFrame * k) (pos 0)) plus first side c
+      ∙ ap (addedTo plus c more [] hand (first + k)) (added-silent plus a hand first side k (stemsPerFrame * k))
+
+  pub added-parts : (sounds : Bool) (b others : List ℤ) → length b ≡ stemsPerFrame * cond sounds k 0 → length others ≡ stemsPerFrame * cond sounds c 0 → Parts b others
+  added-parts true b others eb eo = added-append a more b others hand k one ea eb plus first side c
+  added-parts false b others eb eo = rw (no-more b eb, no-more others eo) alone

@@ -1,10 +1,13 @@
 -- What is accepted over a RAM is accepted over a longer one. Assumes nothing.
 use mathlib.Core.Path.{_≡_, refl, sym, ap, _∙_}
 use mathlib.Core.Bool.{Bool, true, false, cond, _&&_}
-use Prim.Native.Nat.{ℕ, _≤_}
+use mathlib.Core.List.{List}
+use Prim.Native.Nat.{ℕ, zero, suc, _≤_, _<_}
 use native.Mathlib.Omega.{arith}
 use native.Mathlib.Decide.{decLt}
+use lib.ListN.{getD}
 use Rattle.sizes.specs.Sizes.{ramMost}
+use Rattle.cores.specs.Sizes.{numCores}
 use Rattle.num.proofs.Choice.{both, together, never}
 use Rattle.tone.specs.Pcm.{isRamLength}
 use Rattle.tone.proofs.Ram.{too-high}
@@ -12,13 +15,16 @@ use Rattle.version.specs.declared.SguVersion.{SguVersion}
 use Rattle.registers.specs.Waveforms.{isSqv4}
 use Rattle.stream.specs.Accepted.{acceptsCache}
 use Rattle.stream.proofs.Accepts.{accepted-as, as-accepted}
-use Rattle.voice.specs.Accepted.{acceptsStream, AcceptedChannel}
+use Rattle.voice.specs.Accepted.{acceptsStream, acceptsChannel, AcceptedChannel}
 use Rattle.voice.specs.declared.Channel.{Channel}
-use Rattle.voices.specs.Core.{channelAt}
-use Rattle.voices.specs.Accepted.{AcceptedCore}
+use Rattle.voice.proofs.Keeps.{accepted-channel, channel-accepted}
+use Rattle.voices.specs.Core.{noChannel}
+use Rattle.voices.specs.Accepted.{acceptsFirst, AcceptedCore}
 use Rattle.voices.proofs.Accepting.{core-accepted}
 use Rattle.s3w2.specs.declared.Chip.{Chip}
+use Rattle.s3w2.specs.Chips.{coreAt}
 use Rattle.s3w2.specs.Refusals.{acceptsChip}
+use Rattle.s3w2.proofs.Fits.{chip-accepts, core-accepts}
 
 -- ---- a longer RAM
 stream-longer : (c : Channel) (n m : ℕ) → n ≤ m → acceptsStream c n ≡ true → acceptsStream c m ≡ true
@@ -49,5 +55,17 @@ pub ram-small : (n : ℕ) → isRamLength n ≡ true → n ≤ ramMost
 ram-small n e = elim (decLt ramMost n) [ yes y ↦ never (sym e ∙ too-high n y) | no y ↦ omega arith ]
 
 -- ---- an accepted state is one over a longer RAM too
-pub longer : (chip : Chip) (n m : ℕ) → n ≤ m → AcceptedCore (chip .core) (chip .version) n → acceptsChip chip m ≡ true
-longer chip n m h a = core-accepted (chip .core) (chip .version) m (record { sized = a .sized; each = λ j l. channel-longer (channelAt (chip .core) j) (chip .version) n m h (a .each j l) })
+first-longer : (k : ℕ) (l : List Channel) (version : SguVersion) (n m : ℕ) → n ≤ m → acceptsFirst k l version n ≡ true → acceptsFirst k l version m ≡ true
+unfolding acceptsFirst
+first-longer zero l version n m h e = refl
+first-longer (suc k) l version n m h e =
+    let c = getD l k noChannel in
+    let a = both (acceptsFirst k l version n) (acceptsChannel c version n) e in
+    together (acceptsFirst k l version m) (acceptsChannel c version m) (first-longer k l version n m h (a .0))
+    (channel-accepted c version m (channel-longer c version n m h (accepted-channel c version n (a .1))))
+
+pub accepts-longer : (chip : Chip) (n m : ℕ) → n ≤ m → acceptsChip chip n ≡ true → acceptsChip chip m ≡ true
+accepts-longer chip n m h e = chip-accepts chip m (λ k l. first-longer 8 (coreAt chip k .channels) (chip .version) n m h (core-accepts chip n e k l))
+
+pub longer : (chip : Chip) (n m : ℕ) → n ≤ m → ((k : ℕ) → k < numCores → AcceptedCore (coreAt chip k) (chip .version) n) → acceptsChip chip m ≡ true
+longer chip n m h a = accepts-longer chip n m h (chip-accepts chip n (λ k l. core-accepted (coreAt chip k) (chip .version) n (a k l)))

@@ -1,108 +1,118 @@
--- Frames mixed some at a time: what the loop keeps. Assumes nothing.
-use mathlib.Core.Path.{_≡_, refl, sym, ap, _∙_}
-use mathlib.Core.Bool.{true}
-use mathlib.Core.List.{List, _++_, append-nil}
-use Prim.Native.Nat.{ℕ, _+_, _*_, _-_, _/_, _≤_, _<_, min}
+-- Frames of both cores added to two sides some at a time, and sides that are cleared first. Assumes nothing.
+use mathlib.Core.Path.{_≡_, refl, sym, ap, ap₂, _∙_}
+use mathlib.Core.Bool.{Bool, cond}
+use mathlib.Core.List.{List, _++_}
+use Prim.Native.Nat.{ℕ, _+_, _*_, _-_, _≤_, _<_, min}
 use native.Mathlib.Omega.{arith}
-use lib.Dec.{eqb}
 use lib.IntN.{ℤ, pos}
-use lib.ListN.{length, take, drop, replicate, length-append, length-take, length-drop, length-replicate, drop-of-length-le}
-use lib.Seq.{sets, sets-eq, length-sets}
-use Rattle.sizes.specs.Sizes.{queueBuffer}
+use lib.ListN.{length, take, drop, replicate, length-take, length-replicate}
+use lib.Seq.{sets-eq, length-sets}
+use Rattle.sizes.specs.Sizes.{stemsPerFrame}
+use Rattle.voices.specs.declared.Core.{Core}
 use Rattle.sides.specs.Sides.{framesIn, addedTo, saturating}
 use Rattle.sides.proofs.Added.{added-length}
-use Rattle.version.specs.declared.SguVersion.{SguVersion}
-use Rattle.voices.specs.declared.Core.{Core}
-use Rattle.voices.specs.Accepted.{acceptsCore}
-use Rattle.frames.specs.Turning.{Turns, frames, runOf}
-use Rattle.frames.proofs.Framing.{frames-turns, frames-long}
+use Rattle.frames.specs.Turning.{Turns}
+use Rattle.frames.proofs.Framing.{frames-long}
 use Rattle.s3w2.specs.declared.Chip.{Chip}
-use Rattle.s3w2.specs.Mixing.{Mix, mix, mixed, heardOn, clearedTo, mixedCalled, mixedLeft, mixedRight}
-use Rattle.s3w2.proofs.Sounds.{run-open}
-use Rattle.s3w2.proofs.Chunks.{chunk, mixed-chunk}
+use Rattle.s3w2.specs.Chips.{coreAt, withCores, coreQueues}
+use Rattle.s3w2.specs.Sound.{coreFrames, framed}
+use Rattle.s3w2.specs.Both.{secondSounds}
+use Rattle.s3w2.specs.Mixing.{clearedTo, mixedCalled, mixedSide, mixedLeft, mixedRight}
+use Rattle.s3w2.proofs.Chunks.{added-parts}
+use Rattle.s3w2.proofs.Seconds.{first-frames, second-side}
+use Rattle.s3w2.proofs.Loops.{Ran, one, two, Going, Went, went, mine-read, its-read, going-over}
 
--- a buffer overwritten from its start to its end
-pub sets-all : (s l : List ℤ) → length s ≡ length l → sets s 0 l ≡ l
-sets-all s l e = sets-eq l s 0 (omega arith) ∙ rw (drop-of-length-le s {i = 0 + length l} (omega arith)) (append-nil l)
+-- ---- frames added to two sides
+module _ (plus : ℤ → ℤ → ℤ) (ram : List ℕ) (queues : List ℤ) (sounds : Bool) (start : Chip) where
+  -- a side after k frames
+  abbrev onSide : ℕ → ℕ → List ℤ → List ℤ
+  onSide hand k side = addedTo plus k (one ram queues sounds start k .stems) (two ram queues sounds start k .stems) hand 0 side
 
-pub prefix-length : (k : ℕ) (l : List ℤ) → k ≤ length l → k ≡ length (take k l)
-prefix-length k l h = sym (length-take k l ∙ omega arith)
+  side-turn : (n k count : ℕ) (c d : Core) (ys zs : List ℤ) → Went ram queues sounds start n k count c d ys zs → (hand : ℕ) (side₀ side heard : List ℤ) → hand ≤ 1 → side ≡ onSide hand k side₀
+      → heard ≡ addedTo plus count ys zs hand k side → heard ≡ onSide hand (k + count) side₀
+  side-turn n k count c d ys zs w hand side₀ side heard h es eh =
+      let z : k ≡ 0 + k = omega arith in
+      eh
+      ∙ ap₂ (λ (f : ℕ) (l : List ℤ). addedTo plus count ys zs hand f l) z es
+      ∙ sym (added-parts plus hand 0 k count h side₀ (one ram queues sounds start k .stems) ys (frames-long (start .version) ram (coreQueues 0 queues) (coreAt start 0) k) sounds (two ram queues sounds start k .stems) zs
+      (frames-long (start .version) ram (coreQueues 1 queues) (coreAt start 1) (cond sounds k 0)) (w .longTwo))
+      ∙ ap₂ (λ (a b : List ℤ). addedTo plus (k + count) a b hand 0 side₀) (w .stemsOne) (w .stemsTwo)
 
-pub rest-length : (ys stems : List ℤ) (m n : ℕ) → length ys ≡ 16 * m → length stems ≡ n → 16 * m ≤ n → length (ys ++ drop (16 * m) stems) ≡ n
-rest-length ys stems m n e h l = length-append ys (drop (16 * m) stems) ∙ rw (e, length-drop (16 * m) stems, h) (omega arith)
+  side-over : sounds ≡ secondSounds start → (n : ℕ) (left right : List ℤ) (hand : ℕ) (side : List ℤ) → n ≡ min (length left) (length right) → onSide hand n side ≡ mixedSide plus start ram queues left right hand side
+  side-over e n left right hand side q =
+      second-side start ram queues n sounds e plus (one ram queues sounds start n .stems) hand 0 side
+      ∙ sym (ap (λ (t : Turns). addedTo plus n (t .stems) (second n) hand 0 side) (first-frames start ram queues n))
+      ∙ ap (λ (m : ℕ). addedTo plus m (first m) (second m) hand 0 side) q
+    where
+      first : ℕ → List ℤ
+      first m = coreFrames start ram queues m 0 .stems
 
-pub record Going (plus : ℤ → ℤ → ℤ) (version : SguVersion) (ram : List ℕ) (queues : List ℤ) (n : ℕ) (start : Mix) (k : ℕ) (now : Mix) : Type 0 where
-  pub within : k ≤ n
-  pub is : now ≡ mixed plus version ram queues k start
-  pub accepted : acceptsCore (now .core) version (length ram) ≡ true
-  pub lefts : length (now .left) ≡ length (start .left)
-  pub rights : length (now .right) ≡ length (start .right)
-  pub long : n ≡ min (length (start .left)) (length (start .right))
+      second : ℕ → List ℤ
+      second m = coreFrames start ram queues m 1 .stems
 
--- ---- the turns of a stem buffer with room for some frames are these frames
-module _ (version : SguVersion) (ram : List ℕ) (queues : List ℤ) (core : Core) (lent : eqb (length queues) queueBuffer ≡ true) (ok : acceptsCore core version (length ram) ≡ true) (count : ℕ) (stems : List ℤ) (es : length stems ≡ 16 * count) where
-  abbrev ran : Turns
-  ran = runOf version ram queues 0 4 (length stems / 2) core
+  module _ (left₀ right₀ : List ℤ) (n : ℕ) where
+    pub record Mixing (k : ℕ) (a b : Core) (left right : List ℤ) : Type 0 where
+      pub going : Going ram queues sounds start n k a b
+      pub onLeft : left ≡ onSide 0 k left₀
+      pub onRight : right ≡ onSide 1 k right₀
+      pub long : n ≡ min (length left₀) (length right₀)
 
-  abbrev some : Turns
-  some = frames version ram queues count core
+    pub mixing-begin : Going ram queues sounds start n 0 (coreAt start 0) (coreAt start 1) → n ≡ min (length left₀) (length right₀) → Mixing 0 (coreAt start 0) (coreAt start 1) left₀ right₀
+    unfolding addedTo
+    mixing-begin g e = record { going = g; onLeft = refl; onRight = refl; long = e }
 
-  ran-frames : ran ≡ some
-  ran-frames =
-      let e : length stems / 2 ≡ 8 * count = omega arith in
-      ap (λ (k : ℕ). runOf version ram queues 0 4 k core) e ∙ run-open version ram queues 0 4 (8 * count) core lent (omega arith) (omega arith) ok ∙ frames-turns version ram queues core count
+    module _ (k : ℕ) (a b : Core) (left right : List ℤ) (m : Mixing k a b left right) where
+      pub left-length : length left ≡ length left₀
+      left-length = ap length (m .onLeft) ∙ added-length plus _ _ 0 0 left₀ k
 
-  pub ran-core : ran .core ≡ some .core
-  ran-core = ap (λ (t : Turns). t .core) ran-frames
+      pub right-length : length right ≡ length right₀
+      right-length = ap length (m .onRight) ∙ added-length plus _ _ 1 0 right₀ k
 
-  pub ran-stems : sets stems 0 (ran .stems) ≡ some .stems
-  ran-stems = ap (λ (t : Turns). sets stems 0 (t .stems)) ran-frames ∙ sets-all stems (some .stems) (es ∙ sym (frames-long version ram queues core count))
+      -- one more turn, from what `run_core` and the adding say
+      module _ (more : k < n) (count : ℕ) (ec : count ≡ min (n - k) 256) (stems others : List ℤ) (es : length stems ≡ 4096) (eo : length others ≡ 4096) (room : ℕ) (er : room ≡ cond sounds (stemsPerFrame * count) 0)
+          (q p : List ℤ) (eq : q ≡ queues) (ep : p ≡ queues) (c d : Core) (ys zs : List ℤ)
+          (ry : Ran (start .version) ram q 0 a c (take (stemsPerFrame * count) stems) ys) (rz : Ran (start .version) ram p 1 b d (take room others) zs) where
+        abbrev w : Went ram queues sounds start n k count c d ys zs
+        w = went ram queues sounds start n k a b (m .going) more count ec stems others es eo room er q p eq ep c d ys zs ry rz
 
-module _ (plus : ℤ → ℤ → ℤ) (version : SguVersion) (ram : List ℕ) (queues : List ℤ) (n : ℕ) (start : Mix) where
-  pub begin : n ≡ min (length (start .left)) (length (start .right)) → acceptsCore (start .core) version (length ram) ≡ true → Going plus version ram queues n start 0 start
-  unfolding mixed
-  begin e h = record { within = omega arith; is = refl; accepted = h; lefts = refl; rights = refl; long = e }
+        -- what the adding is lent
+        abbrev firsts : List ℤ
+        firsts = take (stemsPerFrame * count) (ys ++ drop (stemsPerFrame * count) stems)
 
-  module _ (k : ℕ) (now : Mix) (g : Going plus version ram queues n start k now) (lent : eqb (length queues) queueBuffer ≡ true) (more : k < n) (count : ℕ) (ec : count ≡ min (n - k) 256) (entries : List ℤ) (kept : entries ≡ queues) (stems : List ℤ) (es : length stems ≡ 16 * count) where
-    abbrev R : Turns
-    R = runOf version ram entries 0 4 (length stems / 2) (now .core)
+        abbrev seconds : List ℤ
+        seconds = take room (zs ++ drop room others)
 
-    run-same : R ≡ runOf version ram queues 0 4 (length stems / 2) (now .core)
-    run-same = ap (λ (q : List ℤ). runOf version ram q 0 4 (length stems / 2) (now .core)) kept
+        heard-is : (hand : ℕ) (side : List ℤ) → addedTo plus (framesIn (length firsts) (length left) (length right) k) firsts seconds hand k side ≡ addedTo plus count ys zs hand k side
+        unfolding framesIn
+        heard-is hand side =
+            let places : framesIn (length ys) (length left) (length right) k ≡ count = omega (arith, ec, w .longOne, more, left-length, right-length, m .long) in
+            ap₂ (λ (x y : List ℤ). addedTo plus (framesIn (length x) (length left) (length right) k) x y hand k side)
+            (mine-read ram queues sounds start n k a b (m .going) more count ec stems others es eo room er q p eq ep c d ys zs ry rz)
+            (its-read ram queues sounds start n k a b (m .going) more count ec stems others es eo room er q p eq ep c d ys zs ry rz)
+            ∙ ap (λ (f : ℕ). addedTo plus f ys zs hand k side) places
 
-    abbrev F : Turns
-    F = frames version ram queues count (now .core)
-
-    places : framesIn (length stems) (length (now .left)) (length (now .right)) k ≡ count
-    unfolding framesIn
-    places = omega (arith, ec, es, more, g .lefts, g .rights, g .long)
-
-    heard-is : (hand : ℕ) (side : List ℤ) → heardOn plus hand stems R side (length (now .left)) (length (now .right)) k ≡ addedTo plus count (F .stems) hand k side
-    heard-is hand side =
-        ap (λ (m : ℕ). addedTo plus m (sets stems 0 (R .stems)) hand k side) places
-        ∙ ap (λ (l : List ℤ). addedTo plus count l hand k side) (ap (λ (t : Turns). sets stems 0 (t .stems)) run-same ∙ ran-stems version ram queues (now .core) lent (g .accepted) count stems es)
-
-    pub turn : (core : Core) (left right : List ℤ) → core ≡ R .core → left ≡ heardOn plus 0 stems R (now .left) (length (now .left)) (length (now .right)) k
-        → right ≡ heardOn plus 1 stems R (now .right) (length (now .left)) (length (now .right)) k → acceptsCore core version (length ram) ≡ true
-        → Going plus version ram queues n start (k + count) (mix core left right)
-    turn core left right e l r h =
-        let e2 = e ∙ ap (λ (t : Turns). t .core) run-same ∙ ran-core version ram queues (now .core) lent (g .accepted) count stems es in
-        let l2 = l ∙ heard-is 0 (now .left) in
-        let r2 = r ∙ heard-is 1 (now .right) in
-        record {
-          within = omega (arith, ec, more);
-          is = (λ i. record { core = e2 i; left = l2 i; right = r2 i }) ∙ ap (chunk version ram queues plus k count) (g .is) ∙ sym (mixed-chunk version ram queues plus k start count);
-          accepted = h;
-          lefts = ap length l2 ∙ added-length plus (F .stems) 0 k (now .left) count ∙ g .lefts;
-          rights = ap length r2 ∙ added-length plus (F .stems) 1 k (now .right) count ∙ g .rights;
-          long = g .long;
+        pub mixing-turn : (l r : List ℤ) → l ≡ addedTo plus (framesIn (length firsts) (length left) (length right) k) firsts seconds 0 k left
+            → r ≡ addedTo plus (framesIn (length firsts) (length left) (length right) k) firsts seconds 1 k right → Mixing (k + count) c d l r
+        mixing-turn l r el er = record {
+          going = w .going;
+          onLeft = side-turn n k count c d ys zs w 0 left₀ left l (omega arith) (m .onLeft) (el ∙ heard-is 0 left);
+          onRight = side-turn n k count c d ys zs w 1 right₀ right r (omega arith) (m .onRight) (er ∙ heard-is 1 right);
+          long = m .long;
         }
 
-  -- after the last frame
-  pub over : (k : ℕ) (now : Mix) → Going plus version ram queues n start k now → n ≤ k → now ≡ mixed plus version ram queues (min (length (start .left)) (length (start .right))) start
-  over k now g h =
-      let e : k ≡ min (length (start .left)) (length (start .right)) = omega (arith, h, g .within, g .long) in
-      g .is ∙ ap (λ (m : ℕ). mixed plus version ram queues m start) e
+      -- after the last frame
+      module _ (e : sounds ≡ secondSounds start) (h : n ≤ k) where
+        abbrev last : k ≡ n
+        last = omega (arith, h, m .going .within)
+
+        pub chip-over : (next : Chip) → next ≡ withCores start a b → next ≡ framed start ram queues (min (length left₀) (length right₀))
+        chip-over next en = going-over ram queues sounds start n k a b next e (m .going) h en ∙ ap (λ (j : ℕ). framed start ram queues j) (m .long)
+
+        pub left-over : left ≡ mixedSide plus start ram queues left₀ right₀ 0 left₀
+        left-over = m .onLeft ∙ ap (λ (j : ℕ). onSide 0 j left₀) last ∙ side-over e n left₀ right₀ 0 left₀ (m .long)
+
+        pub right-over : right ≡ mixedSide plus start ram queues left₀ right₀ 1 right₀
+        right-over = m .onRight ∙ ap (λ (j : ℕ). onSide 1 j right₀) last ∙ side-over e n left₀ right₀ 1 right₀ (m .long)
 
 -- the first entries of a side, zeros
 pub cleared-is : (n k : ℕ) (side zeros : List ℤ) → k ≡ min n (length side) → zeros ≡ replicate (length (take k side)) (pos 0) → zeros ++ drop k side ≡ clearedTo n side
@@ -114,13 +124,6 @@ cleared-is n k side zeros e z =
 
 pub cleared-length : (n : ℕ) (side : List ℤ) → length (clearedTo n side) ≡ length side
 cleared-length n side = length-sets side 0 (replicate (min n (length side)) (pos 0))
-
--- what the two calls of a turn leave on a side
-pub heard-from : (plus : ℤ → ℤ → ℤ) (hand : ℕ) (stems out side x : List ℤ) (t : Turns) (left right first : ℕ) → out ≡ sets stems 0 (t .stems)
-    → x ≡ addedTo plus (framesIn (length out) left right first) out hand first side → x ≡ heardOn plus hand stems t side left right first
-heard-from plus hand stems out side x t left right first e h =
-    h ∙ ap (λ (l : List ℤ). addedTo plus (framesIn (length l) left right first) l hand first side) e
-    ∙ ap (λ (m : ℕ). addedTo plus (framesIn m left right first) (sets stems 0 (t .stems)) hand first side) (length-sets stems 0 (t .stems))
 
 -- sides that were cleared first
 module _ (chip : Chip) (ram : List ℕ) (queues left right : List ℤ) (n : ℕ) (l r : List ℤ) where

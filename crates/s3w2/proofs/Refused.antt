@@ -1,6 +1,6 @@
 -- Which refusal is first, and what a call that is turned away leaves. Assumes nothing.
 use mathlib.Core.Path.{_≡_, refl, sym, ap, _∙_}
-use mathlib.Core.Bool.{Bool, true, false, cond}
+use mathlib.Core.Bool.{Bool, true, false, cond, _&&_}
 use Rattle.num.proofs.Choice.{never}
 use Rattle.s3w2.specs.declared.Answer.{Answer}
 use Rattle.s3w2.specs.declared.Answer.the-variants.{Done, RamLength, QueueBuffer, NotAccepted, StemBuffer}
@@ -30,6 +30,13 @@ module _ (ram queues state stems : Bool) where
   pub nothing-amiss : ram ≡ true → queues ≡ true → state ≡ true → stems ≡ true → Done ≡ refusal ram queues state stems
   unfolding refusal
   nothing-amiss a b c e = rw (a, b, c, e)
+
+-- ---- both cores are looked at, the first first
+pub first-not : (a b : Bool) → a ≡ false → false ≡ (a && b)
+first-not a b e = rw e
+
+pub as-second : (a b r : Bool) → a ≡ true → r ≡ b → r ≡ (a && b)
+as-second a b r e f = rw (e, f)
 
 -- ---- a call that goes on, and one that is turned away; `r` is the refusal as the code found it
 module _ (r wanted : Answer) (e : r ≡ wanted) where

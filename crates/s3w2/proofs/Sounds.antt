@@ -1,55 +1,77 @@
--- Turns of an accepted core, and a tick of one voice from what the turns say. Assumes nothing.
+-- A tick of one voice, from what the call of the tick says. Assumes nothing.
 use mathlib.Core.Path.{_≡_, sym, ap, ap₂, _∙_}
-use mathlib.Core.Bool.{Bool, true, false, cond}
+use mathlib.Core.Bool.{Bool, false, cond, _&&_}
 use mathlib.Core.List.{List}
-use Prim.Native.Nat.{ℕ, _≤_, _<_}
+use Prim.Native.Nat.{ℕ, _*_, _-_, _+_, _≤_, _<_}
 use native.Mathlib.Omega.{arith}
-use lib.Dec.{eqb, ltb}
+use lib.Dec.{ltb}
 use lib.IntN.{ℤ, pos}
 use lib.ListN.{length}
-use borrow.Author.Tests.{eqb-true, lt-ltb, le-ltb}
+use borrow.Author.Tests.{eq-eqb, lt-ltb, le-ltb}
+use borrow.Rule.Slice.PartMut.{putMid, put-same}
 use Rattle.sizes.specs.Sizes.{numChannels, queueBuffer}
+use Rattle.cores.specs.Sizes.{numCores, chipQueues}
 use Rattle.version.specs.declared.SguVersion.{SguVersion}
+use Rattle.version.specs.declared.SguVersion.the-variants.{V1, V2, «V2_1», V3, «V3_1»}
+use Rattle.version.specs.Versions.{coreCount}
 use Rattle.voices.specs.Core.{channelAt}
 use Rattle.voices.specs.declared.Core.{Core}
-use Rattle.voices.specs.Accepted.{acceptsCore}
-use Rattle.frames.specs.Turning.{noTurn, turned, runOf, singleTick, afterTurns}
+use Rattle.frames.specs.Turning.{Turns, noTurn, turned, singleTick, afterTurns}
 use Rattle.frame_reports.specs.Ending.{turnedOff}
 use Rattle.frames.specs.declared.Turned.{Turned}
-use Rattle.frames.proofs.Asks.{asked, ran}
 use Rattle.s3w2.specs.declared.Chip.{Chip}
 use Rattle.s3w2.specs.declared.Called.{Called}
 use Rattle.s3w2.specs.declared.Answer.the-variants.{Sample}
 use Rattle.s3w2.specs.Answers.{answered}
-use Rattle.s3w2.specs.Chips.{withCore}
+use Rattle.s3w2.specs.Chips.{coreAt, withCoreAt, coreQueues}
 use Rattle.s3w2.specs.Sound.{oneTick, oneTickEnds}
+use Rattle.s3w2.proofs.Queues.{lent, lent-is, lent-length}
 use Rattle.s3w2.proofs.Endings.{tick-ended}
 
--- one to four ticks each, and 16,384 queue entries
-pub run-open : (version : SguVersion) (ram : List ℕ) (queues : List ℤ) (first n k : ℕ) (core : Core) → eqb (length queues) queueBuffer ≡ true → 1 ≤ n → n ≤ 4 → acceptsCore core version (length ram) ≡ true
-    → runOf version ram queues first n k core ≡ turned version ram queues first n k core
-run-open version ram queues first n k core lent low high ok =
-    sym (ran version ram queues n core first k (sym (asked version ram queues n core (eqb-true (length queues) queueBuffer lent) low high) ∙ ok))
+most-cores : (version : SguVersion) → coreCount version ≤ numCores
+most-cores V1 = omega arith
+most-cores V2 = omega arith
+most-cores «V2_1» = omega arith
+most-cores V3 = omega arith
+most-cores «V3_1» = omega arith
 
-single-open : (version : SguVersion) (ram : List ℕ) (queues : List ℤ) (ch : ℕ) (core : Core) → eqb (length queues) queueBuffer ≡ true
-    → singleTick version ram queues ch core ≡ turned version ram queues ch 1 1 core
-unfolding singleTick
-single-open version ram queues ch core lent = ap (λ (b : Bool). cond b (turned version ram queues ch 1 1 core) (noTurn core)) lent
+pub in-chip : (version : SguVersion) (count k : ℕ) → count ≡ coreCount version → k < count → k < numCores
+in-chip version count k e h = omega (arith, e, h, most-cores version)
 
-module _ (chip : Chip) (ram : List ℕ) (queues : List ℤ) (ch : ℕ) where
+-- the core's entries are put back as they were
+pub lent-back : (queues : List ℤ) (k : ℕ) (ys : List ℤ) → ys ≡ lent queues k → putMid (k * queueBuffer) (k * queueBuffer + queueBuffer - k * queueBuffer) queues ys ≡ queues
+lent-back queues k ys e =
+    ap (putMid (k * queueBuffer) (k * queueBuffer + queueBuffer - k * queueBuffer) queues) e ∙ put-same (k * queueBuffer) (k * queueBuffer + queueBuffer - k * queueBuffer) queues
+
+module _ (chip : Chip) (ram : List ℕ) (queues : List ℤ) (k ch : ℕ) where
   abbrev given : Called
-  given = answered (withCore chip (oneTick chip ram queues ch .core)) (Sample (oneTick chip ram queues ch .sample) (oneTickEnds chip ram queues ch))
+  given = answered (withCoreAt chip k (oneTick chip ram queues k ch .core)) (Sample (oneTick chip ram queues k ch .sample) (oneTickEnds chip ram queues k ch))
 
   abbrev nothing : Called
   nothing = answered chip (Sample (pos 0) false)
 
-  pub sample-none : 7 < ch → nothing ≡ cond (ltb ch numChannels) given nothing
-  sample-none h = sym (ap (λ (t : Bool). cond t given nothing) (le-ltb ch numChannels h))
+  abbrev chosen : Bool → Bool → Called
+  chosen there voice = cond (there && voice) given nothing
 
-  pub sample-some : (core : Core) (sample : ℤ) (ended : Bool) → ch ≤ 7 → eqb (length queues) queueBuffer ≡ true
-      → record { core = core; sample = sample } ≡ afterTurns (singleTick (chip .version) ram queues ch (chip .core)) → ended ≡ turnedOff (channelAt (chip .core) ch) (channelAt core ch)
-      → answered (withCore chip core) (Sample sample ended) ≡ cond (ltb ch numChannels) given nothing
-  sample-some core sample ended h q e f =
-      let r : _≡_ {A = Turned} (record { core = core; sample = sample }) (afterTurns (oneTick chip ram queues ch)) = e ∙ ap afterTurns (single-open (chip .version) ram queues ch (chip .core) q) in
-      let t : ended ≡ oneTickEnds chip ram queues ch = f ∙ tick-ended (chip .version) ram queues (chip .core) core ch h (ap (λ (t : Turned). t .core) r) in
-      ap₂ (λ (t : Turned) (b : Bool). answered (withCore chip (t .core)) (Sample (t .sample) b)) r t ∙ sym (ap (λ (t : Bool). cond t given nothing) (lt-ltb ch numChannels (omega arith)))
+  pub core-none : coreCount (chip .version) ≤ k → nothing ≡ chosen (ltb k (coreCount (chip .version))) (ltb ch numChannels)
+  core-none h = sym (ap (λ (t : Bool). chosen t (ltb ch numChannels)) (le-ltb k (coreCount (chip .version)) h))
+
+  module _ (there : k < coreCount (chip .version)) where
+    pub sample-none : 7 < ch → nothing ≡ chosen (ltb k (coreCount (chip .version))) (ltb ch numChannels)
+    sample-none h = sym (ap₂ chosen (lt-ltb k (coreCount (chip .version)) there) (le-ltb ch numChannels h))
+
+    single-open : length queues ≡ chipQueues → singleTick (chip .version) ram (lent queues k) ch (coreAt chip k) ≡ oneTick chip ram queues k ch
+    unfolding singleTick
+    single-open all =
+        let h : k ≤ 1 = omega (arith, there, most-cores (chip .version)) in
+        let tick : List ℤ → Turns = λ q. turned (chip .version) ram q ch 1 1 (coreAt chip k) in
+        ap (λ (b : Bool). cond b (tick (lent queues k)) (noTurn (coreAt chip k))) (eq-eqb (length (lent queues k)) queueBuffer (lent-length queues k h all)) ∙ ap tick (lent-is queues k h all)
+
+    pub sample-some : (core : Core) (sample : ℤ) (ended : Bool) → ch ≤ 7 → length queues ≡ chipQueues
+        → record { core = core; sample = sample } ≡ afterTurns (singleTick (chip .version) ram (lent queues k) ch (coreAt chip k)) → ended ≡ turnedOff (channelAt (coreAt chip k) ch) (channelAt core ch)
+        → answered (withCoreAt chip k core) (Sample sample ended) ≡ chosen (ltb k (coreCount (chip .version))) (ltb ch numChannels)
+    sample-some core sample ended h q e f =
+        let r : _≡_ {A = Turned} (record { core = core; sample = sample }) (afterTurns (oneTick chip ram queues k ch)) = e ∙ ap afterTurns (single-open q) in
+        let t : ended ≡ oneTickEnds chip ram queues k ch = f ∙ tick-ended (chip .version) ram (coreQueues k queues) (coreAt chip k) core ch h (ap (λ (t : Turned). t .core) r) in
+        ap₂ (λ (t : Turned) (b : Bool). answered (withCoreAt chip k (t .core)) (Sample (t .sample) b)) r t
+        ∙ sym (ap₂ chosen (lt-ltb k (coreCount (chip .version)) there) (lt-ltb ch numChannels (omega (arith, h))))

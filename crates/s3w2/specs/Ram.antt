@@ -11,12 +11,12 @@ use Rattle.s3w2.specs.declared.Answer.{Answer}
 use Rattle.s3w2.specs.declared.Answer.the-variants.{Done, Byte}
 use Rattle.s3w2.specs.Answers.{unless, answered, called, told}
 use Rattle.s3w2.specs.Refusals.{ramRefusal}
-use Rattle.s3w2.specs.Chips.{withCore}
+use Rattle.s3w2.specs.Chips.{onBoth}
 
--- each stream that has the byte begins anew; `ram` is the RAM's length
+-- each stream that has the byte begins anew, on either core; `ram` is the RAM's length
 unfoldable pub writePcmRamCalled : Chip → ℕ → ℕ → Called
 writePcmRamCalled chip ram address =
-    called (ramRefusal chip ram) chip (answered (cond (ltb address ram) (withCore chip (afterRamWrite (chip .core) address)) chip) Done)
+    called (ramRefusal chip ram) chip (answered (cond (ltb address ram) (onBoth (λ core. afterRamWrite core address) chip) chip) Done)
 
 unfoldable pub writePcmRamRam : Chip → List ℕ → ℕ → ℕ → List ℕ
 writePcmRamRam chip ram address value = unless (ramRefusal chip (length ram)) ram (set ram address value)

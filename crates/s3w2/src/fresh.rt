@@ -1,14 +1,17 @@
 // Chips made, reset, and under another version.
 ghost use mathlib.Core.Path.{_≡_};
+ghost use Prim.Native.Nat.{_<_};
 ghost use lib.ListN.{length};
+ghost use Rattle.cores.specs.Sizes.{numCores};
 ghost use Rattle.version.specs.declared.SguVersion.the-variants.{«V3_1»};
 ghost use Rattle.s3w2.specs.Fresh.{madeCalled, madeRam, setVersionCalled, resetCalled, resetRam, resetChannelCalled};
-ghost use Rattle.s3w2.specs.Chips.{withCore, zeroed};
+ghost use Rattle.s3w2.specs.Chips.{withCoreAt, withCores, zeroed};
 ghost use Rattle.s3w2.specs.Answers.{answered};
 use crate::Answer;
 use crate::Called;
 use crate::Chip;
 use crate::refusals::is_done;
+use cores::LAST_CORE;
 use version::SguVersion;
 use voices::Core;
 
@@ -29,14 +32,23 @@ impl Chip {
         Called { chip: self, answer }
     }
 
-    // The chip with another core.
-    pub(crate) fn with_core(self, core: Core, answer: Answer) -> Called
-        ensures { λ r. ⌜ r ≡ answered (withCore self core) answer ⌝ }
+    // The chip with another core 0 or 1.
+    pub(crate) fn with_core(mut self, k: usize, core: Core, answer: Answer) -> Called
+        requires { ⌜ k < numCores ⌝ }
+        ensures { λ r. ⌜ r ≡ answered (withCoreAt self k core) answer ⌝ }
+    {
+        self.cores[k] = core;
+        Called { chip: self, answer }
+    }
+
+    // The chip with other cores.
+    pub(crate) fn with_cores(self, first: Core, second: Core) -> Chip
+        ensures { λ r. ⌜ r ≡ withCores self first second ⌝ }
     {
         let version = self.version;
-        Called {
-            chip: Chip { version, core },
-            answer,
+        Chip {
+            version,
+            cores: [first, second],
         }
     }
 
@@ -47,7 +59,7 @@ impl Chip {
     {
         let chip = Chip {
             version,
-            core: Core::default(),
+            cores: [Core::default(), Core::default()],
         };
         if !tone::is_ram_length(ram.len()) {
             return chip.answers(Answer::RamLength);
@@ -80,10 +92,11 @@ impl Chip {
         if !is_done(refusal) {
             return self.answers(refusal);
         }
-        let core = self.core;
+        let first = self.cores[0];
+        let second = self.cores[1];
         let chip = Chip {
             version,
-            core: core.set_version(version),
+            cores: [first.set_version(version), second.set_version(version)],
         };
         chip.answers(Answer::Done)
     }
@@ -98,18 +111,22 @@ impl Chip {
             return self.answers(refusal);
         }
         zero(ram);
-        self.with_core(Core::default(), Answer::Done)
+        let chip = self.with_cores(Core::default(), Core::default());
+        chip.answers(Answer::Done)
     }
 
-    // A channel above 7 is none.
-    pub fn reset_channel(self, ch: usize) -> Called
-        ensures { λ r. ⌜ r ≡ resetChannelCalled self ch ⌝ }
+    // A channel above 7 is none, and so is a core above 1.
+    pub fn reset_channel(self, core: usize, ch: usize) -> Called
+        ensures { λ r. ⌜ r ≡ resetChannelCalled self core ch ⌝ }
     {
         let refusal = self.refusal();
         if !is_done(refusal) {
             return self.answers(refusal);
         }
-        let core = self.core;
-        self.with_core(core.reset_channel(ch), Answer::Done)
+        if LAST_CORE < core {
+            return self.answers(Answer::Done);
+        }
+        let voices = self.cores[core];
+        self.with_core(core, voices.reset_channel(ch), Answer::Done)
     }
 }

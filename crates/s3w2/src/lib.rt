@@ -1,19 +1,21 @@
-// The chip: eight voices over one lent RAM and one lent queue buffer, and its calls with their refusals.
+// The chip: two cores of eight voices over one lent RAM and one lent queue buffer, and its calls with their refusals.
 mod addressed;
+mod both;
 mod channels;
+mod ended;
 mod fresh;
-mod lists;
 mod mixing;
 mod ram;
 mod refusals;
 mod sound;
 
+pub use refusals::is_done;
 use version::SguVersion;
 use voices::Core;
 
 pub struct Chip {
     pub version: SguVersion,
-    pub core: Core,
+    pub cores: [Core; 2],
 }
 
 // What a call answers: what it gives, or why it is turned away.
@@ -24,8 +26,8 @@ pub enum Answer {
     Sample { value: i16, ended: bool },
     Count(usize),
     Flag(bool),
-    // The voices that some frames turned off, as a set: bit n for channel n.
-    Ended(u8),
+    // The voices that some frames turned off, as a set: bit 8 k + n for channel n of core k.
+    Ended(u16),
     RamLength,
     QueueBuffer,
     NotAccepted,
@@ -35,4 +37,10 @@ pub enum Answer {
 pub struct Called {
     pub chip: Chip,
     pub answer: Answer,
+}
+
+// Which voices of each core are active.
+pub(crate) struct Flags {
+    pub first: [bool; 8],
+    pub second: [bool; 8],
 }

@@ -1,84 +1,33 @@
-// Frames added to two sides, 256 at a time; the shorter of the two is served.
+// Frames of both cores added to two sides, 256 at a time; the shorter of the two is served.
 ghost use mathlib.Core.Path.{_≡_};
-ghost use mathlib.Core.Bool.{true};
-ghost use Prim.Native.Nat.{_/_};
-ghost use lib.ListN.{length};
-ghost use Rattle.voices.specs.Accepted.{acceptsCore};
-ghost use Rattle.frames.specs.Turning.{runOf};
+ghost use mathlib.Core.Bool.{cond};
 ghost use Rattle.sides.specs.Sides.{saturating, wrapping};
-ghost use Rattle.s3w2.specs.Mixing.{clearedTo, heardOn, mixedCalled, mixedI32Called, mixedLeft, mixedRight, clockMixedCalled, clockMixedLeft, clockMixedRight};
+ghost use Rattle.s3w2.specs.Mixing.{clearedTo, mixedCalled, mixedI32Called, mixedLeft, mixedRight, clockMixedCalled, clockMixedLeft, clockMixedRight};
 use crate::Answer;
 use crate::Called;
 use crate::Chip;
+use crate::both::run_core;
 use crate::refusals::is_done;
-use version::SguVersion;
-use voices::Core;
-
-// Frames mixed at a time.
-const CHUNK: usize = 256;
-
 use sizes::STEMS;
+
+// Frames at a time.
+pub(crate) const CHUNK: usize = 256;
+
+// The room of core 1's stems: none where it does not sound.
+pub(crate) fn room(sounds: bool, room: usize) -> usize
+    ensures { λ r. ⌜ r ≡ cond sounds room 0 ⌝ }
+{
+    if sounds {
+        return room;
+    }
+    0
+}
 
 fn clear(side: &mut [i16], n: usize)
     ensures { λ _. ⌜ now (side .exit) ≡ clearedTo n (now (side .entry)) ⌝ }
 {
     let end = num::least(n, side.len());
     stream::clear(&mut side[..end]);
-}
-
-// The frames that a stem buffer has room for, added to the sides from a place on.
-fn add_frames(
-    core: Core,
-    version: SguVersion,
-    ram: &[u8],
-    queues: &mut [i16],
-    stems: &mut [i16],
-    left: &mut [i16],
-    right: &mut [i16],
-    first: usize,
-) -> Core
-    ensures result { λ r. ⌜ r ≡ runOf version (now (ram .entry)) (now (queues .entry)) 0 4 (length (now (stems .entry)) / 2) core .core ⌝ }
-    ensures left { λ _. ⌜ now (left .exit)
-        ≡ heardOn saturating 0 (now (stems .entry))
-        (runOf version (now (ram .entry)) (now (queues .entry)) 0 4 (length (now (stems .entry)) / 2) core) (now (left .entry))
-        (length (now (left .entry))) (length (now (right .entry))) first ⌝ }
-    ensures right { λ _. ⌜ now (right .exit)
-        ≡ heardOn saturating 1 (now (stems .entry))
-        (runOf version (now (ram .entry)) (now (queues .entry)) 0 4 (length (now (stems .entry)) / 2) core) (now (right .entry))
-        (length (now (left .entry))) (length (now (right .entry))) first ⌝ }
-    ensures { λ r. ⌜ (acceptsCore core version (length (now (ram .entry))) ≡ true → acceptsCore r version (length (now (ram .entry))) ≡ true) ⌝ }
-    ensures queues { λ _. ⌜ now (queues .exit) ≡ now (queues .entry) ⌝ }
-{
-    let next = frames::run(core, version, ram, queues, 0, 4, &mut *stems);
-    sides::add(&*stems, left, right, first);
-    next
-}
-
-fn add_frames_i32(
-    core: Core,
-    version: SguVersion,
-    ram: &[u8],
-    queues: &mut [i16],
-    stems: &mut [i16],
-    left: &mut [i32],
-    right: &mut [i32],
-    first: usize,
-) -> Core
-    ensures result { λ r. ⌜ r ≡ runOf version (now (ram .entry)) (now (queues .entry)) 0 4 (length (now (stems .entry)) / 2) core .core ⌝ }
-    ensures left { λ _. ⌜ now (left .exit)
-        ≡ heardOn wrapping 0 (now (stems .entry))
-        (runOf version (now (ram .entry)) (now (queues .entry)) 0 4 (length (now (stems .entry)) / 2) core) (now (left .entry))
-        (length (now (left .entry))) (length (now (right .entry))) first ⌝ }
-    ensures right { λ _. ⌜ now (right .exit)
-        ≡ heardOn wrapping 1 (now (stems .entry))
-        (runOf version (now (ram .entry)) (now (queues .entry)) 0 4 (length (now (stems .entry)) / 2) core) (now (right .entry))
-        (length (now (left .entry))) (length (now (right .entry))) first ⌝ }
-    ensures { λ r. ⌜ (acceptsCore core version (length (now (ram .entry))) ≡ true → acceptsCore r version (length (now (ram .entry))) ≡ true) ⌝ }
-    ensures queues { λ _. ⌜ now (queues .exit) ≡ now (queues .entry) ⌝ }
-{
-    let next = frames::run(core, version, ram, queues, 0, 4, &mut *stems);
-    sides::add_i32(&*stems, left, right, first);
-    next
 }
 
 impl Chip {
@@ -107,7 +56,7 @@ impl Chip {
         self.clock_mixed_into(ram, queues, left, right)
     }
 
-    // The frames are clamped and added to the sides, and saturate.
+    // The sums of both cores are clamped and added to the sides, and saturate.
     pub fn clock_mixed_into(
         self,
         ram: &[u8],
@@ -127,30 +76,27 @@ impl Chip {
             return self.answers(refusal);
         }
         let version = self.version;
-        let mut core = self.core;
+        let sounds = self.second_sounds();
         let n = num::least(left.len(), right.len());
+        let mut first = self.cores[0];
+        let mut second = self.cores[1];
         let mut stems = [0i16; STEMS * CHUNK];
-        let mut done = 0;
-        while done < n {
-            let count = num::least(n - done, CHUNK);
+        let mut others = [0i16; STEMS * CHUNK];
+        let mut at = 0;
+        while at < n {
+            let count = num::least(n - at, CHUNK);
             let end = STEMS * count;
-            let part = &mut stems[..end];
-            core = add_frames(
-                core,
-                version,
-                ram,
-                &mut *queues,
-                part,
-                &mut *left,
-                &mut *right,
-                done,
-            );
-            done += count;
+            let more = room(sounds, end);
+            first = run_core(first, version, ram, &mut *queues, 0, &mut stems[..end]);
+            second = run_core(second, version, ram, &mut *queues, 1, &mut others[..more]);
+            sides::add(&stems[..end], &others[..more], &mut *left, &mut *right, at);
+            at += count;
         }
-        self.with_core(core, Answer::Done)
+        let chip = self.with_cores(first, second);
+        chip.answers(Answer::Done)
     }
 
-    // The frames are added to sides of 32 bits, and wrap. The answer is the voices that the frames turned off.
+    // The sums are added to sides of 32 bits, and wrap. The answer is the voices that the frames turned off.
     pub fn clock_mixed_into_i32(
         self,
         ram: &[u8],
@@ -169,30 +115,25 @@ impl Chip {
         if !is_done(refusal) {
             return self.answers(refusal);
         }
+        let was = self.flags();
         let version = self.version;
-        let mut core = self.core;
-        let before = core.channels;
-        let was = voices::actives(before);
+        let sounds = self.second_sounds();
         let n = num::least(left.len(), right.len());
+        let mut first = self.cores[0];
+        let mut second = self.cores[1];
         let mut stems = [0i16; STEMS * CHUNK];
-        let mut done = 0;
-        while done < n {
-            let count = num::least(n - done, CHUNK);
+        let mut others = [0i16; STEMS * CHUNK];
+        let mut at = 0;
+        while at < n {
+            let count = num::least(n - at, CHUNK);
             let end = STEMS * count;
-            let part = &mut stems[..end];
-            core = add_frames_i32(
-                core,
-                version,
-                ram,
-                &mut *queues,
-                part,
-                &mut *left,
-                &mut *right,
-                done,
-            );
-            done += count;
+            let more = room(sounds, end);
+            first = run_core(first, version, ram, &mut *queues, 0, &mut stems[..end]);
+            second = run_core(second, version, ram, &mut *queues, 1, &mut others[..more]);
+            sides::add_i32(&stems[..end], &others[..more], &mut *left, &mut *right, at);
+            at += count;
         }
-        let after = core.channels;
-        self.with_core(core, Answer::Ended(voices::ended(was, after)))
+        let chip = self.with_cores(first, second);
+        chip.answers(chip.ended_since(was))
     }
 }

@@ -8,7 +8,7 @@ use crate::Chip;
 use crate::refusals::is_done;
 
 impl Chip {
-    // A stream that has the byte begins anew.
+    // A stream that has the byte begins anew, on either core.
     pub fn write_pcm_ram(self, ram: &mut [u8], address: u32, value: u8) -> Called
         ensures called { λ r. ⌜ r ≡ writePcmRamCalled self (length (now (ram .entry))) address ⌝ }
         ensures ram { λ _. ⌜ now (ram .exit) ≡ writePcmRamRam self (now (ram .entry)) address value ⌝ }
@@ -22,8 +22,13 @@ impl Chip {
             return self.answers(Answer::Done);
         }
         ram[at] = value;
-        let core = self.core;
-        self.with_core(core.after_ram_write(address), Answer::Done)
+        let first = self.cores[0];
+        let second = self.cores[1];
+        let chip = self.with_cores(
+            first.after_ram_write(address),
+            second.after_ram_write(address),
+        );
+        chip.answers(Answer::Done)
     }
 
     // Reads a byte of the RAM.

@@ -3,16 +3,16 @@ ghost use mathlib.Core.Path.{_≡_};
 ghost use lib.Dec.{eqb};
 ghost use Prim.Native.Nat.{_*_};
 ghost use lib.ListN.{getD};
-ghost use Rattle.sizes.specs.Sizes.{stemsPerFrame};
+ghost use Rattle.cores.specs.Sizes.{chipStems};
 ghost use Rattle.s3w2.specs.Answers.{isDone, numberOf};
 ghost use Rattle.s3w2.specs.Refusals.{acceptsChip, ownRefusal, ramRefusal, queuesRefusal, soundRefusal, clockRefusal};
 use crate::Answer;
 use crate::Chip;
-use sizes::QUEUE_BUFFER;
+use cores::CHIP_QUEUES;
 use sizes::RAM_MOST;
 
 // Whether a call may go on.
-pub(crate) fn is_done(answer: Answer) -> bool
+pub fn is_done(answer: Answer) -> bool
     ensures { λ r. ⌜ r ≡ isDone answer ⌝ }
 {
     match answer {
@@ -29,14 +29,14 @@ pub(crate) fn is_done(answer: Answer) -> bool
     }
 }
 
-// Whether a stem buffer has 16 entries a frame.
+// Whether a stem buffer has 32 entries a frame.
 fn is_stem_buffer(length: usize, frames: usize) -> bool
-    ensures { λ r. ⌜ r ≡ eqb length (stemsPerFrame * frames) ⌝ }
+    ensures { λ r. ⌜ r ≡ eqb length (chipStems * frames) ⌝ }
 {
-    if length % 16 != 0 {
+    if length % 32 != 0 {
         return false;
     }
-    length / 16 == frames
+    length / 32 == frames
 }
 
 impl Answer {
@@ -60,13 +60,17 @@ impl Answer {
 }
 
 impl Chip {
-    // Whether the state is accepted over a RAM of a length.
+    // Whether the state is accepted over a RAM of a length: all sixteen voices, in every version.
     pub fn accepts(self, length: usize) -> bool
         ensures { λ r. ⌜ r ≡ acceptsChip self length ⌝ }
     {
         let version = self.version;
-        let core = self.core;
-        core.accepts(version, length)
+        let first = self.cores[0];
+        if !first.accepts(version, length) {
+            return false;
+        }
+        let second = self.cores[1];
+        second.accepts(version, length)
     }
 
     // A call that is lent neither RAM nor queues. No address of an accepted state is past the largest RAM, so its length
@@ -95,7 +99,7 @@ impl Chip {
     pub(crate) fn refusal_with_queues(self, queues: usize) -> Answer
         ensures { λ r. ⌜ r ≡ queuesRefusal self queues ⌝ }
     {
-        if queues != QUEUE_BUFFER {
+        if queues != CHIP_QUEUES {
             return Answer::QueueBuffer;
         }
         self.refusal()
@@ -108,7 +112,7 @@ impl Chip {
         if !tone::is_ram_length(length) {
             return Answer::RamLength;
         }
-        if queues != QUEUE_BUFFER {
+        if queues != CHIP_QUEUES {
             return Answer::QueueBuffer;
         }
         if !self.accepts(length) {

@@ -1,5 +1,7 @@
-// s3w2_bench FRAMES: reads a log without C lines from standard input (of less than 2,097,152 bytes), clocks that many frames with
-// clock_mixed_into over zeroed sides, 1,000 at a time, and prints the sum of all left values, a comma, the sum of all right values.
+// s3w2_bench FRAMES [pair]: reads a log without C lines from standard input (of less than 2,097,152 bytes), clocks that many frames with
+// clock_mixed_into over zeroed sides, 1,000 at a time, and prints the sum of all left values, a comma, the sum of all right values. With
+// a second word core 1 begins as a copy of core 0, its queues too.
+use cores::CHIP_QUEUES;
 use decimal::TakenNatural;
 use log_player::Next;
 use log_player::Player;
@@ -173,6 +175,42 @@ fn argument() -> usize {
     value as usize
 }
 
+// Whether there is a second argument.
+fn is_pair() -> bool {
+    2 < os::arg_count()
+}
+
+// Core 1's queues as copies of core 0's.
+fn copy_queues(queues: &mut [i16]) {
+    if queues.len() != CHIP_QUEUES {
+        return;
+    }
+    let mut i = 0;
+    while i < QUEUE_BUFFER {
+        queues[i + QUEUE_BUFFER] = queues[i];
+        i += 1;
+    }
+}
+
+// Core 1 as a copy of core 0.
+fn pair(chip: Chip, queues: &mut [i16]) -> Chip {
+    let version = chip.version;
+    let core = chip.cores[0];
+    copy_queues(queues);
+    Chip {
+        version,
+        cores: [core, core],
+    }
+}
+
+// The chip that is clocked.
+fn benched(chip: Chip, queues: &mut [i16]) -> Chip {
+    if is_pair() {
+        return pair(chip, queues);
+    }
+    chip
+}
+
 fn print_sums(summed: Summed) {
     print(summed.left);
     io::write_all(libc::STDOUT_FILENO, b",");
@@ -213,7 +251,7 @@ fn play(ram: &mut [u8], queues: &mut [i16], text: &[u8]) {
         return;
     }
     let player = loaded.player;
-    let chip = player.chip;
+    let chip = benched(player.chip, &mut *queues);
     let first = Summed {
         chip,
         left: 0,
@@ -233,7 +271,7 @@ fn run(ram: &mut [u8], queues: &mut [i16], text: &mut [u8]) {
 
 fn main() {
     let mut ram = [0u8; 65536];
-    let mut queues = [0i16; QUEUE_BUFFER];
+    let mut queues = [0i16; CHIP_QUEUES];
     let mut text = [0u8; 2097152];
     run(&mut ram, &mut queues, &mut text);
 }

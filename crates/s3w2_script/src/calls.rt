@@ -4,44 +4,43 @@ use crate::fields;
 use crate::setting;
 use crate::showing;
 use crate::sounding;
+use cores::CHIP_QUEUES;
 use s3w2::Answer;
 use s3w2::Called;
 use s3w2::Chip;
-use sizes::QUEUE_BUFFER;
 use version::Parsed;
 use version::SguVersion;
 
 // The calls that change nothing; no other letter is a call.
-fn asked(chip: Chip, line: &[u64], ram: &[u8]) -> Answer {
+fn asked(chip: Chip, core: usize, line: &[u64], ram: &[u8]) -> Answer {
     let ch = fields::size(line, 1);
     let a = fields::word(line, 1);
     let x = fields::byte(line, 2);
     match fields::letter(line) {
-        b'P' => chip.peek_register(a),
-        b't' => chip.read_channel_wavetable(ch, x),
-        b'q' => chip.read_channel_pcm_reg(ch, x),
-        b'w' => chip.wavetable_length(ch),
-        b'i' => chip.interpolates(ch),
+        b'P' => chip.peek_register(core, a),
+        b't' => chip.read_channel_wavetable(core, ch, x),
+        b'q' => chip.read_channel_pcm_reg(core, ch, x),
+        b'w' => chip.wavetable_length(core, ch),
+        b'i' => chip.interpolates(core, ch),
         b'm' => chip.read_pcm_ram(ram, a),
         _ => Answer::Done,
     }
 }
 
 // The calls that write to no buffer.
-fn called(chip: Chip, line: &[u64], ram: &[u8]) -> Called {
+fn called(chip: Chip, core: usize, line: &[u64], ram: &[u8]) -> Called {
     let ch = fields::size(line, 1);
     let x = fields::byte(line, 2);
     let y = fields::byte(line, 3);
     match fields::letter(line) {
         b'V' => chip.set_version(fields::version(line)),
-        b'z' => chip.reset_channel(ch),
-        b'R' => chip.read_register(fields::word(line, 1)),
-        b'T' => chip.write_channel_wavetable(ch, x, y),
-        b'c' => chip.read_channel_control(ch, x),
-        b'Q' => chip.write_channel_pcm_reg(ch, x, y),
-        b'F' => setting::with_cache(chip, line),
+        b'z' => chip.reset_channel(core, ch),
+        b'R' => chip.read_register(core, fields::word(line, 1)),
+        b'T' => chip.write_channel_wavetable(core, ch, x, y),
+        b'c' => chip.read_channel_control(core, ch, x),
+        b'Q' => chip.write_channel_pcm_reg(core, ch, x, y),
         _ => {
-            let answer = asked(chip, line, ram);
+            let answer = asked(chip, core, line, ram);
             Called { chip, answer }
         }
     }
@@ -72,15 +71,21 @@ fn called_with_ram(chip: Chip, line: &[u64], ram: &mut [u8]) -> Called {
 }
 
 // The calls that write to the queues, and those that write to no buffer.
-fn called_with_queues(chip: Chip, line: &[u64], ram: &[u8], queues: &mut [i16]) -> Called {
+fn called_with_queues(
+    chip: Chip,
+    core: usize,
+    line: &[u64],
+    ram: &[u8],
+    queues: &mut [i16],
+) -> Called {
     let ch = fields::size(line, 1);
     let x = fields::byte(line, 2);
     match fields::letter(line) {
-        b'W' => chip.write_register(queues, fields::word(line, 1), x),
-        b'C' => chip.write_channel_control(queues, ch, x, fields::byte(line, 3)),
-        b'G' => chip.generate_sample(ram, queues, ch),
-        b'E' => setting::with_voice(chip, line, queues),
-        _ => called(chip, line, ram),
+        b'W' => chip.write_register(queues, core, fields::word(line, 1), x),
+        b'C' => chip.write_channel_control(queues, core, ch, x, fields::byte(line, 3)),
+        b'G' => chip.generate_sample(ram, queues, core, ch),
+        b'E' | b'F' => setting::set(chip, core, line, queues),
+        _ => called(chip, core, line, ram),
     }
 }
 
@@ -136,13 +141,18 @@ fn number_told(line: &[u64], ram: &[u8]) -> i64 {
     }
 }
 
-fn put_features(out: &mut [u8], at: usize, version: SguVersion) -> usize {
+// What a line tells of no chip: a number, or of a version two.
+fn put_told(line: &[u64], ram: &[u8], out: &mut [u8], at: usize) -> usize {
+    if fields::letter(line) != b'u' {
+        return fields::put_number(out, at, number_told(line, ram));
+    }
+    let version = fields::version(line);
     let end = fields::put(&mut *out, at, version.core_count() as u64);
     fields::put(out, end, fields::flag_number(version.has_34si22()))
 }
 
 impl Player {
-    // With the lengths that a line asks to be lent from then on.
+    // With what a line asks for from then on: the lengths that are lent, the core that lines name.
     fn lent(mut self, line: &[u64]) -> Player {
         match fields::letter(line) {
             b'l' => {
@@ -151,8 +161,10 @@ impl Player {
             }
             b'N' => {
                 self.ram = fields::size(line, 2);
-                self.queues = QUEUE_BUFFER;
+                self.queues = CHIP_QUEUES;
+                self.core = 0;
             }
+            b'k' => self.core = fields::size(line, 1),
             _ => {}
         }
         self
@@ -161,17 +173,14 @@ impl Player {
     // A line that does not write to the RAM, over RAM and queues as long as they are to be.
     fn play(self, line: &[u64], ram: &[u8], queues: &mut [i16], out: &mut [u8]) -> Player {
         let chip = self.chip;
+        let core = self.core;
         let at = self.end;
         match fields::letter(line) {
-            b'A' | b'O' | b'U' | b'K' => {
-                self.ended(fields::put_number(out, at, number_told(line, ram)))
-            }
-            b'u' => self.ended(put_features(out, at, fields::version(line))),
-            b'D' => self.ended(showing::put_voice(chip, line, &*queues, out, at)),
-            b'S' => self.sounded(sounding::stems(chip, line, ram, queues), out),
-            b'X' | b'Y' => self.sounded(sounding::sides(chip, line, ram, queues), out),
+            b'A' | b'O' | b'U' | b'u' | b'K' => self.ended(put_told(line, ram, out, at)),
+            b'D' => self.ended(showing::put_voice(chip, core, line, &*queues, out, at)),
+            b'S' | b'X' | b'Y' => self.sounded(sounding::sides(chip, line, ram, queues), out),
             b'y' => self.sounded_wide(sounding::wide_sides(chip, line, ram, queues), out),
-            _ => self.after(called_with_queues(chip, line, ram, queues), out),
+            _ => self.after(called_with_queues(chip, core, line, ram, queues), out),
         }
     }
 

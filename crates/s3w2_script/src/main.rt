@@ -6,9 +6,9 @@ mod setting;
 mod showing;
 mod sounding;
 
+use cores::CHIP_QUEUES;
 use program::BufferLine;
 use s3w2::Chip;
-use sizes::QUEUE_BUFFER;
 use version::SguVersion;
 
 // The most fields that a line has, its letter the first of them.
@@ -17,14 +17,16 @@ const FIELDS: usize = 513;
 // The most bytes of RAM that a line can have lent. oracle/compare_chip builds the program with more.
 const RAM_ROOM: usize = 1048576;
 
-// More bytes than a line's answer has: 8,192 samples of a clock are the longest, with at most 7 bytes each.
-const ANSWER_ROOM: usize = 65536;
+// More bytes than a line's answer has: 16,384 samples of a clock are the longest, with at most 7 bytes each.
+const ANSWER_ROOM: usize = 131072;
 
-// A chip, the lengths of RAM and queue buffer that are lent to it, and the place behind the answers that are not written yet.
+// A chip, the lengths of RAM and queue buffer that are lent to it, the core that lines name, and the place behind the answers that are
+// not written yet.
 struct Player {
     chip: Chip,
     ram: usize,
     queues: usize,
+    core: usize,
     end: usize,
 }
 
@@ -36,7 +38,8 @@ fn first(ram: &mut [u8]) -> Player {
     Player {
         chip,
         ram: 256,
-        queues: QUEUE_BUFFER,
+        queues: CHIP_QUEUES,
+        core: 0,
         end: 0,
     }
 }
@@ -90,6 +93,6 @@ fn with_texts(ram: &mut [u8], queues: &mut [i16]) {
 
 fn main() {
     let mut ram = [0x55u8; RAM_ROOM];
-    let mut queues = [0i16; 16400];
+    let mut queues = [0i16; CHIP_QUEUES + 16];
     with_texts(&mut ram, &mut queues);
 }

@@ -2,6 +2,9 @@
 use crate::fields;
 use adpcm::State;
 use adpcm::Variant;
+use cores::CHIP_QUEUES;
+use cores::CHIP_VOICES;
+use cores::LAST_CORE;
 use registers::Fifo;
 use registers::ModulationType;
 use registers::PcmRegisters;
@@ -11,7 +14,6 @@ use s3w2::Answer;
 use s3w2::Called;
 use s3w2::Chip;
 use sizes::FIFO_CAPACITY;
-use sizes::QUEUE_BUFFER;
 use sizes::WAVETABLES_SIZE;
 use stream::Cached;
 use stream::Held;
@@ -19,6 +21,7 @@ use stream::Info;
 use stream::StreamCache;
 use ticks::Oscillator;
 use voice::Channel;
+use voices::Core;
 
 fn registers_of(line: &[u64]) -> Registers {
     Registers {
@@ -75,11 +78,11 @@ pub(crate) struct Ring {
     pub end: usize,
 }
 
-pub(crate) fn ring_of(ch: usize, fifo: Fifo) -> Ring {
+pub(crate) fn ring_of(voice: usize, fifo: Fifo) -> Ring {
     let head = fifo.head % FIFO_CAPACITY;
     let count = num::least(fifo.count, FIFO_CAPACITY);
     let oldest = num::least(count, FIFO_CAPACITY - head);
-    let again = ch % 8 * FIFO_CAPACITY;
+    let again = voice % CHIP_VOICES * FIFO_CAPACITY;
     Ring {
         from: again + head,
         to: again + head + oldest,
@@ -89,11 +92,11 @@ pub(crate) fn ring_of(ch: usize, fifo: Fifo) -> Ring {
 }
 
 // The queue's entries, oldest first, from a seed.
-fn fill_queue(queues: &mut [i16], ch: usize, fifo: Fifo, seed: u64) {
-    if queues.len() < QUEUE_BUFFER {
+fn fill_queue(queues: &mut [i16], voice: usize, fifo: Fifo, seed: u64) {
+    if queues.len() < CHIP_QUEUES {
         return;
     }
-    let r = ring_of(ch, fifo);
+    let r = ring_of(voice, fifo);
     let x = fields::fill(&mut *queues, r.from, r.to, seed, true);
     fields::fill(queues, r.again, r.end, x, true);
 }
@@ -109,29 +112,6 @@ fn fill_wavetable(wavetables: &mut [u8; WAVETABLES_SIZE], ch: usize, seed: u64) 
         } else {
             (fields::bits_of(x) % 256) as u8
         };
-    }
-}
-
-// The voice has its cache as it was.
-pub(crate) fn with_voice(mut chip: Chip, line: &[u64], queues: &mut [i16]) -> Called {
-    let ch = fields::size(line, 1) % 8;
-    let fifo = fifo_of(line);
-    fill_queue(queues, ch, fifo, fields::long(line, 28));
-    let mut core = chip.core;
-    let old = core.channels[ch];
-    let stream = old.stream;
-    core.channels[ch] = Channel {
-        oscillator: oscillator_of(line),
-        fifo,
-        stream,
-        pcm: pcm_of(line),
-        registers: registers_of(line),
-    };
-    fill_wavetable(&mut core.wavetables, ch, fields::long(line, 29));
-    chip.core = core;
-    Called {
-        chip,
-        answer: Answer::Done,
     }
 }
 
@@ -178,15 +158,43 @@ fn fill_fragments(fragments: &mut [i16; 1024], ch: usize, seed: u64) {
     fields::fill(fragments, at, at + 128, seed, seed != 0);
 }
 
-pub(crate) fn with_cache(mut chip: Chip, line: &[u64]) -> Called {
-    let ch = fields::size(line, 1) % 8;
-    let mut core = chip.core;
+fn with_cache(mut core: Core, voice: usize, line: &[u64]) -> Core {
+    let ch = voice % 8;
     let mut c = core.channels[ch];
     let s = cache_of(line);
     c.stream = s;
     core.channels[ch] = c;
     fill_fragments(&mut core.fragments, ch, fields::long(line, 14));
-    chip.core = core;
+    core
+}
+
+// With a line's cache, or with its voice, whose cache is as it was.
+fn changed(mut core: Core, voice: usize, line: &[u64], queues: &mut [i16]) -> Core {
+    if fields::letter(line) == b'F' {
+        return with_cache(core, voice, line);
+    }
+    let ch = voice % 8;
+    let fifo = fifo_of(line);
+    fill_queue(queues, voice, fifo, fields::long(line, 28));
+    let old = core.channels[ch];
+    let stream = old.stream;
+    core.channels[ch] = Channel {
+        oscillator: oscillator_of(line),
+        fifo,
+        stream,
+        pcm: pcm_of(line),
+        registers: registers_of(line),
+    };
+    fill_wavetable(&mut core.wavetables, ch, fields::long(line, 29));
+    core
+}
+
+// The chip with a core changed by a line.
+pub(crate) fn set(mut chip: Chip, core: usize, line: &[u64], queues: &mut [i16]) -> Called {
+    let k = num::least(core, LAST_CORE);
+    let voice = 8 * k + fields::size(line, 1) % 8;
+    let old = chip.cores[k];
+    chip.cores[k] = changed(old, voice, line, queues);
     Called {
         chip,
         answer: Answer::Done,

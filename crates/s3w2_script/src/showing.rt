@@ -2,11 +2,12 @@
 use crate::fields;
 use crate::setting::ring_of;
 use adpcm::Variant;
+use cores::CHIP_QUEUES;
+use cores::LAST_CORE;
 use registers::Fifo;
 use registers::PcmRegisters;
 use registers::Registers;
 use s3w2::Chip;
-use sizes::QUEUE_BUFFER;
 use stream::Cached;
 use stream::Held;
 use stream::Info;
@@ -138,12 +139,12 @@ fn put_number(out: &mut [u8], at: usize, number: Number) -> usize {
 }
 
 // The queue's count and its entries, oldest first.
-fn put_queue(out: &mut [u8], at: usize, f: Fifo, queues: &[i16], ch: usize) -> usize {
+fn put_queue(out: &mut [u8], at: usize, f: Fifo, queues: &[i16], voice: usize) -> usize {
     let first = fields::put(&mut *out, at, f.count as u64);
-    if queues.len() < QUEUE_BUFFER {
+    if queues.len() < CHIP_QUEUES {
         return first;
     }
-    let r = ring_of(ch, f);
+    let r = ring_of(voice, f);
     let second = fields::put_samples(&mut *out, first, queues, r.from, r.to);
     fields::put_samples(out, second, queues, r.again, r.end)
 }
@@ -159,17 +160,19 @@ fn put_channel(out: &mut [u8], at: usize, c: Channel) -> usize {
 // A line's voice.
 pub(crate) fn put_voice(
     chip: Chip,
+    core: usize,
     line: &[u64],
     queues: &[i16],
     out: &mut [u8],
     at: usize,
 ) -> usize {
-    let core = chip.core;
+    let n = num::least(core, LAST_CORE);
+    let voices = chip.cores[n];
     let k = fields::size(line, 1) % 8;
-    let c = core.channels[k];
-    let table = num::part(&core.wavetables, 256 * k, 256 * k + 256);
+    let c = voices.channels[k];
+    let table = num::part(&voices.wavetables, 256 * k, 256 * k + 256);
     let first = put_channel(&mut *out, at, c);
     let second = fields::put_bytes(&mut *out, first, table);
-    let third = put_queue(&mut *out, second, c.fifo, queues, k);
-    fields::put_samples(out, third, &core.fragments, 128 * k, 128 * k + 128)
+    let third = put_queue(&mut *out, second, c.fifo, queues, 8 * n + k);
+    fields::put_samples(out, third, &voices.fragments, 128 * k, 128 * k + 128)
 }

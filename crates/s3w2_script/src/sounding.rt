@@ -4,8 +4,8 @@ use crate::fields;
 use s3w2::Called;
 use s3w2::Chip;
 
-// The most stems that a line asks for, and the most values of a side.
-const STEMS: usize = 8192;
+// The most stems that a line asks for, or values of a left side, and the most values of any other side.
+const STEMS: usize = 16384;
 
 const SIDE: usize = 1024;
 
@@ -27,44 +27,50 @@ pub(crate) struct WideSound {
     r: usize,
 }
 
-pub(crate) fn stems(chip: Chip, line: &[u64], ram: &[u8], queues: &mut [i16]) -> Sound {
-    let mut left = [0i16; STEMS];
-    let right = [0i16; SIDE];
-    let l = num::least(fields::size(line, 2), STEMS);
-    let called = chip.clock(ram, queues, fields::size(line, 1), &mut left[..l]);
-    Sound {
-        called,
-        left,
-        l,
-        right,
-        r: 0,
+// How many values the left side, or stems, and the right side are to have.
+struct Lengths {
+    left: usize,
+    right: usize,
+}
+
+fn asked_lengths(line: &[u64]) -> Lengths {
+    if fields::letter(line) == b'S' {
+        return Lengths {
+            left: fields::size(line, 2),
+            right: 0,
+        };
+    }
+    Lengths {
+        left: fields::size(line, 1),
+        right: fields::size(line, 2),
     }
 }
 
-fn mixed(
+fn clocked(
     chip: Chip,
-    letter: u8,
+    line: &[u64],
     ram: &[u8],
     queues: &mut [i16],
     left: &mut [i16],
     right: &mut [i16],
 ) -> Called {
-    if letter == b'X' {
-        return chip.clock_mixed(ram, queues, left, right);
+    match fields::letter(line) {
+        b'S' => chip.clock(ram, queues, fields::size(line, 1), left),
+        b'X' => chip.clock_mixed(ram, queues, left, right),
+        _ => chip.clock_mixed_into(ram, queues, left, right),
     }
-    chip.clock_mixed_into(ram, queues, left, right)
 }
 
-// Two sides that hold samples from a seed before the call.
+// Stems, or two sides, that hold samples from a seed before the call.
 pub(crate) fn sides(chip: Chip, line: &[u64], ram: &[u8], queues: &mut [i16]) -> Sound {
-    let letter = fields::letter(line);
     let mut left = [0i16; STEMS];
     let mut right = [0i16; SIDE];
-    let l = num::least(fields::size(line, 1), SIDE);
-    let r = num::least(fields::size(line, 2), SIDE);
+    let lengths = asked_lengths(line);
+    let l = num::least(lengths.left, STEMS);
+    let r = num::least(lengths.right, SIDE);
     let seed = fields::fill(&mut left, 0, l, fields::long(line, 3), true);
     fields::fill(&mut right, 0, r, seed, true);
-    let called = mixed(chip, letter, ram, queues, &mut left[..l], &mut right[..r]);
+    let called = clocked(chip, line, ram, queues, &mut left[..l], &mut right[..r]);
     Sound {
         called,
         left,

@@ -1,5 +1,5 @@
-// s3w2-stems [--split]: writes the stems of the log on standard input to standard output, as one WAV file of 16 channels; with the word
-// --split as eight stereo ones, that of channel n to descriptor 3 + n.
+// s3w2-stems [--split]: writes the stems of the log on standard input to standard output, as one WAV file of 32 channels; with the word
+// --split as sixteen stereo ones, that of voice n to descriptor 3 + n.
 
 // Whether the first word is --split.
 fn is_split() -> bool {

@@ -1,7 +1,7 @@
 // s3w2-timed: plays the log with frame times on standard input and prints what it gives on standard output.
 mod playing;
 
-use sizes::QUEUE_BUFFER;
+use cores::CHIP_QUEUES;
 
 fn with_buffers(ram: &mut [u8], queues: &mut [i16]) {
     let mut input = io::large_buffer();
@@ -16,6 +16,6 @@ fn with_queues(queues: &mut [i16]) {
 }
 
 fn main() {
-    let mut queues = [0i16; QUEUE_BUFFER];
+    let mut queues = [0i16; CHIP_QUEUES];
     with_queues(&mut queues);
 }

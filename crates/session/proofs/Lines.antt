@@ -2,13 +2,14 @@
 use mathlib.Core.Path.{_≡_, refl, sym, ap, ap₂, _∙_}
 use mathlib.Core.Bool.{true, false, cond}
 use mathlib.Core.List.{List}
-use Prim.Native.Nat.{ℕ, _+_, _-_, _*_}
+use Prim.Native.Nat.{ℕ, _+_, _-_, _*_, _%_}
 use native.Mathlib.Omega.{arith}
 use lib.Dec.{eqb}
 use lib.IntN.{ℤ}
 use lib.ListN.{length, take, drop}
 use borrow.Author.Tests.{eq-eqb, ne-eqb}
-use Rattle.sizes.specs.Sizes.{fifoCapacity, queueBuffer}
+use Rattle.sizes.specs.Sizes.{fifoCapacity, numChannels}
+use Rattle.cores.specs.Sizes.{chipQueues}
 use Rattle.num.specs.Lists.{part}
 use Rattle.tone.specs.Pcm.{isRamLength}
 use Rattle.version.specs.declared.SguVersion.{SguVersion}
@@ -25,17 +26,17 @@ use Rattle.s3w2.specs.declared.Chip.{Chip}
 use Rattle.session.specs.declared.LineAnswer.the-variants.{Done, Malformed, OtherLength, Queued}
 use Rattle.session.specs.Answers.{lineAnswered, wrote, stateAccepted, queuesLent, withState, withLentQueues, withLentRam}
 use Rattle.session.specs.Heads.{versionCalled, headCalled}
-use Rattle.session.specs.Voices.{lineOfVoice, writeVoiceAnswer, writeVoiceText, loadedChip, loadedQueues, voiceCalled, voiceQueues}
+use Rattle.session.specs.Voices.{coreOf, lineOfVoice, writeVoiceAnswer, writeVoiceText, loadedChip, loadedQueues, voiceCalled, voiceQueues}
 use Rattle.session.proofs.Told.{by-voice, by-fault, by-queue}
 
 -- ---- the queue buffer, then the state
 module _ {A : Type 0} (chip : Chip) (queues : List ℤ) (done notAccepted notLent : A) where
-  pub not-lent : (length queues ≡ queueBuffer → ⊥) → notLent ≡ withLentQueues chip queues done notAccepted notLent
-  not-lent h = second-arm (queuesLent queues) (withState chip done notAccepted) notLent (ne-eqb (length queues) queueBuffer h)
+  pub not-lent : (length queues ≡ chipQueues → ⊥) → notLent ≡ withLentQueues chip queues done notAccepted notLent
+  not-lent h = second-arm (queuesLent queues) (withState chip done notAccepted) notLent (ne-eqb (length queues) chipQueues h)
 
-  module _ (h : length queues ≡ queueBuffer) where
+  module _ (h : length queues ≡ chipQueues) where
     lent : withState chip done notAccepted ≡ withLentQueues chip queues done notAccepted notLent
-    lent = first-arm (queuesLent queues) (withState chip done notAccepted) notLent (eq-eqb (length queues) queueBuffer h)
+    lent = first-arm (queuesLent queues) (withState chip done notAccepted) notLent (eq-eqb (length queues) chipQueues h)
 
     pub not-accepted : stateAccepted chip ≡ false → notAccepted ≡ withLentQueues chip queues done notAccepted notLent
     not-accepted e = second-arm (stateAccepted chip) done notAccepted e ∙ lent
@@ -73,33 +74,37 @@ module _ (chip : Chip) (ram : ℕ) (text : List ℕ) where
   head-fault field e = sym (ap (headCalled chip ram) e)
 
 -- ---- a voice line written
-pub own-line : (chip : Chip) (queues : List ℤ) (ch : ℕ) (w : List ℕ) → w ≡ part (chip .core .wavetables) (ch * 256) (ch * 256 + 256 - ch * 256)
-    → voiceText ch (channelAt (chip .core) ch) w (take (ch * fifoCapacity + fifoCapacity - ch * fifoCapacity) (drop (ch * fifoCapacity) queues)) ≡ lineOfVoice chip queues ch
-unfolding lineOfVoice
-own-line chip queues ch w e =
-    let m : ch * 256 + 256 - ch * 256 ≡ 256 = omega arith in
-    let n : ch * fifoCapacity + fifoCapacity - ch * fifoCapacity ≡ fifoCapacity = omega arith in
-    ap₂ (λ (x : List ℕ) (y : List ℤ). voiceText ch (channelAt (chip .core) ch) x y) (e ∙ ap (part (chip .core .wavetables) (ch * 256)) m) (ap (part queues (ch * fifoCapacity)) n)
+module _ (chip : Chip) (queues : List ℤ) (number : ℕ) where
+  abbrev ch : ℕ
+  ch = number % numChannels
 
-module _ (chip : Chip) (queues : List ℤ) (ch : ℕ) (out text : List ℕ) (is : text ≡ lineOfVoice chip queues ch) (lent : length queues ≡ queueBuffer) (ok : stateAccepted chip ≡ true) where
-  pub line-answer : (w : Written) → w ≡ writtenOf out text → wrote w ≡ writeVoiceAnswer chip queues ch out
-  unfolding writeVoiceAnswer
-  line-answer w e = ap wrote (e ∙ ap (writtenOf out) is) ∙ goes-on chip queues _ _ _ lent ok
+  pub own-line : (w : List ℕ) → w ≡ part (coreOf chip number .wavetables) (ch * 256) (ch * 256 + 256 - ch * 256)
+      → voiceText number (channelAt (coreOf chip number) ch) w (take (number * fifoCapacity + fifoCapacity - number * fifoCapacity) (drop (number * fifoCapacity) queues)) ≡ lineOfVoice chip queues number
+  unfolding lineOfVoice
+  own-line w e =
+      let m : ch * 256 + 256 - ch * 256 ≡ 256 = omega arith in
+      let n : number * fifoCapacity + fifoCapacity - number * fifoCapacity ≡ fifoCapacity = omega arith in
+      ap₂ (λ (x : List ℕ) (y : List ℤ). voiceText number (channelAt (coreOf chip number) ch) x y) (e ∙ ap (part (coreOf chip number .wavetables) (ch * 256)) m) (ap (part queues (number * fifoCapacity)) n)
 
-  pub line-text : (after : List ℕ) → after ≡ putOf out text → after ≡ writeVoiceText chip queues ch out
-  unfolding writeVoiceText
-  line-text after e = e ∙ ap (putOf out) is ∙ goes-on chip queues _ _ _ lent ok
+  module _ (out text : List ℕ) (is : text ≡ lineOfVoice chip queues number) (lent : length queues ≡ chipQueues) (ok : stateAccepted chip ≡ true) where
+    pub line-answer : (w : Written) → w ≡ writtenOf out text → wrote w ≡ writeVoiceAnswer chip queues number out
+    unfolding writeVoiceAnswer
+    line-answer w e = ap wrote (e ∙ ap (writtenOf out) is) ∙ goes-on chip queues _ _ _ lent ok
+
+    pub line-text : (after : List ℕ) → after ≡ putOf out text → after ≡ writeVoiceText chip queues number out
+    unfolding writeVoiceText
+    line-text after e = e ∙ ap (putOf out) is ∙ goes-on chip queues _ _ _ lent ok
 
 -- ---- a voice line read
-module _ (r : ReadVoice) (ch : ℕ) (e : toldOf r ≡ told.Voice ch) where
-  pub voice-called : (chip : Chip) → lineAnswered (loadedChip chip ch r) Done ≡ voiceCalled chip r
+module _ (r : ReadVoice) (number : ℕ) (e : toldOf r ≡ told.Voice number) where
+  pub voice-called : (chip : Chip) → lineAnswered (loadedChip chip number r) Done ≡ voiceCalled chip r
   voice-called chip =
-      by-voice (λ (x : ReadVoice). lineAnswered (loadedChip chip ch x) Done ≡ voiceCalled chip x) r ch e
+      by-voice (λ (x : ReadVoice). lineAnswered (loadedChip chip number x) Done ≡ voiceCalled chip x) r number e
       (λ v q. ap (λ (n : ℕ). lineAnswered (loadedChip chip n (voice v)) Done) (sym q))
 
-  pub voice-queues : (queues : List ℤ) → loadedQueues queues ch r ≡ voiceQueues queues r
+  pub voice-queues : (queues : List ℤ) → loadedQueues queues number r ≡ voiceQueues queues r
   voice-queues queues =
-      by-voice (λ (x : ReadVoice). loadedQueues queues ch x ≡ voiceQueues queues x) r ch e (λ v q. ap (λ (n : ℕ). loadedQueues queues n (voice v)) (sym q))
+      by-voice (λ (x : ReadVoice). loadedQueues queues number x ≡ voiceQueues queues x) r number e (λ v q. ap (λ (n : ℕ). loadedQueues queues n (voice v)) (sym q))
 
 module _ (r : ReadVoice) (field : ℕ) (e : toldOf r ≡ told.Malformed field) where
   pub fault-called : (chip : Chip) → lineAnswered chip (Malformed field) ≡ voiceCalled chip r

@@ -5,7 +5,8 @@ use Prim.Native.Nat.{ℕ}
 use lib.Dec.{eqb}
 use lib.IntN.{ℤ}
 use lib.ListN.{length}
-use Rattle.sizes.specs.Sizes.{queueBuffer, ramMost}
+use Rattle.sizes.specs.Sizes.{ramMost}
+use Rattle.cores.specs.Sizes.{chipQueues}
 use Rattle.tone.specs.Pcm.{isRamLength}
 use Rattle.line_fields.specs.declared.Written as lines
 use Rattle.line_fields.specs.declared.Written.the-variants as line
@@ -42,7 +43,7 @@ abbrev pub stateAccepted : Chip → Bool
 stateAccepted chip = acceptsChip chip ramMost
 
 abbrev pub queuesLent : List ℤ → Bool
-queuesLent queues = eqb (length queues) queueBuffer
+queuesLent queues = eqb (length queues) chipQueues
 
 -- what a call makes that is lent the RAM, of a length
 abbrev pub withLentRam : {A : Type 0} → Chip → ℕ → A → A → A → A

@@ -2,7 +2,7 @@
 ghost use mathlib.Core.Path.{_≡_};
 ghost use Prim.Native.Nat.{_<_};
 ghost use lib.ListN.{length};
-ghost use Rattle.sizes.specs.Sizes.{numChannels, queueBuffer};
+ghost use Rattle.cores.specs.Sizes.{chipVoices, chipQueues};
 ghost use Rattle.session_lines.specs.Lines.{readAs};
 ghost use Rattle.session.specs.Voices.{loadedChip, loadedQueues, voiceReadCalled, voiceReadQueues};
 ghost use Rattle.session.specs.Voices.{readVoiceCalled, readVoiceQueues, readStoredVoiceCalled, readStoredVoiceQueues};
@@ -10,24 +10,27 @@ use crate::LineAnswer;
 use crate::LineCalled;
 use crate::answers::accepted;
 use crate::answers::answers;
+use cores::CHIP_QUEUES;
 use s3w2::Chip;
 use session_lines::VoiceLine;
 use sizes::FIFO_CAPACITY;
-use sizes::QUEUE_BUFFER;
+use sizes::NUM_CHANNELS;
 
-// The line is read into voice ch, which is lent its own wavetable and queue entries; its fragments stay, its cache is empty.
-fn load(chip: Chip, queues: &mut [i16], stored: bool, ch: usize, text: &[u8]) -> Chip
-    requires { ⌜ (ch < numChannels) × (length (now queues) ≡ queueBuffer) ⌝ }
-    ensures result { λ r. ⌜ r ≡ loadedChip chip ch (readAs stored (chip .version) (now (text .entry))) ⌝ }
-    ensures queues { λ _. ⌜ now (queues .exit) ≡ loadedQueues (now (queues .entry)) ch (readAs stored (chip .version) (now (text .entry))) ⌝ }
+// The line is read into a voice, which is lent its own wavetable and queue entries; its fragments stay, its cache is empty.
+fn load(mut chip: Chip, queues: &mut [i16], stored: bool, voice: usize, text: &[u8]) -> Chip
+    requires { ⌜ (voice < chipVoices) × (length (now queues) ≡ chipQueues) ⌝ }
+    ensures result { λ r. ⌜ r ≡ loadedChip chip voice (readAs stored (chip .version) (now (text .entry))) ⌝ }
+    ensures queues { λ _. ⌜ now (queues .exit) ≡ loadedQueues (now (queues .entry)) voice (readAs stored (chip .version) (now (text .entry))) ⌝ }
 {
     let version = chip.version;
-    let mut core = chip.core;
+    let k = voice / NUM_CHANNELS;
+    let ch = voice % NUM_CHANNELS;
+    let mut core = chip.cores[k];
     let channels = core.channels;
     let mut tables = core.wavetables;
     let at = ch * 256;
     let to = at + 256;
-    let first = ch * FIFO_CAPACITY;
+    let first = voice * FIFO_CAPACITY;
     let end = first + FIFO_CAPACITY;
     let c = channels[ch];
     let d = session_lines::read_voice(
@@ -40,14 +43,15 @@ fn load(chip: Chip, queues: &mut [i16], stored: bool, ch: usize, text: &[u8]) ->
     );
     core.wavetables = tables;
     core.channels[ch] = d;
-    Chip { version, core }
+    chip.cores[k] = core;
+    chip
 }
 
 fn read(chip: Chip, queues: &mut [i16], stored: bool, text: &[u8]) -> LineCalled
     ensures called { λ r. ⌜ r ≡ voiceReadCalled stored chip (now (queues .entry)) (now (text .entry)) ⌝ }
     ensures queues { λ _. ⌜ now (queues .exit) ≡ voiceReadQueues stored chip (now (queues .entry)) (now (text .entry)) ⌝ }
 {
-    if queues.len() != QUEUE_BUFFER {
+    if queues.len() != CHIP_QUEUES {
         return answers(chip, LineAnswer::QueueBuffer);
     }
     if !accepted(chip) {
@@ -56,7 +60,9 @@ fn read(chip: Chip, queues: &mut [i16], stored: bool, text: &[u8]) -> LineCalled
     let version = chip.version;
     let line = session_lines::check_voice(stored, version, text);
     match line {
-        VoiceLine::Voice(ch) => answers(load(chip, queues, stored, ch, text), LineAnswer::Done),
+        VoiceLine::Voice(voice) => {
+            answers(load(chip, queues, stored, voice, text), LineAnswer::Done)
+        }
         VoiceLine::Malformed(field) => answers(chip, LineAnswer::Malformed(field)),
         VoiceLine::Queued => answers(chip, LineAnswer::Queued),
     }

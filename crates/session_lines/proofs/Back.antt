@@ -82,15 +82,15 @@ flag-back true = refl
 flag-back false = refl
 
 -- ---- where the parts lie
-in-table : (ch : ℕ) (c : Channel) (w : List ℕ) (q : List ℤ) (i : ℕ) → at (fieldNumbers ch c w q) (25 + i) ≡ at (tableNumbers w ++ queueNumbers (c .fifo) q) i
-in-table ch c w q i =
-    ap (λ (l : List ℕ). at l (25 + i)) (parts-of ch c w q)
-    ∙ ap (λ (n : ℕ). at (stateNumbers ch c ++ (tableNumbers w ++ queueNumbers (c .fifo) q)) (n + i)) (sym (size-states ch c))
-    ∙ getD-append-add (stateNumbers ch c) (tableNumbers w ++ queueNumbers (c .fifo) q) i 0
+in-table : (number : ℕ) (c : Channel) (w : List ℕ) (q : List ℤ) (i : ℕ) → at (fieldNumbers number c w q) (25 + i) ≡ at (tableNumbers w ++ queueNumbers (c .fifo) q) i
+in-table number c w q i =
+    ap (λ (l : List ℕ). at l (25 + i)) (parts-of number c w q)
+    ∙ ap (λ (n : ℕ). at (stateNumbers number c ++ (tableNumbers w ++ queueNumbers (c .fifo) q)) (n + i)) (sym (size-states number c))
+    ∙ getD-append-add (stateNumbers number c) (tableNumbers w ++ queueNumbers (c .fifo) q) i 0
 
-pub in-queue : (ch : ℕ) (c : Channel) (w : List ℕ) (q : List ℤ) (i : ℕ) → at (fieldNumbers ch c w q) (281 + i) ≡ at (queueNumbers (c .fifo) q) i
-in-queue ch c w q i =
-    ap (at (fieldNumbers ch c w q)) (split i) ∙ in-table ch c w q (256 + i)
+pub in-queue : (number : ℕ) (c : Channel) (w : List ℕ) (q : List ℤ) (i : ℕ) → at (fieldNumbers number c w q) (281 + i) ≡ at (queueNumbers (c .fifo) q) i
+in-queue number c w q i =
+    ap (at (fieldNumbers number c w q)) (split i) ∙ in-table number c w q (256 + i)
     ∙ ap (λ (n : ℕ). at (tableNumbers w ++ queueNumbers (c .fifo) q) (n + i)) (sym (size-table w))
     ∙ getD-append-add (tableNumbers w) (queueNumbers (c .fifo) q) i 0
   where
@@ -117,36 +117,36 @@ entries-are g f d (x ∷ l) k (suc n) e h =
     move : (k j : ℕ) → suc k + j ≡ k + suc j
     move k j = omega arith
 
-module _ (version : SguVersion) (ch : ℕ) (c : Channel) (w : List ℕ) (q : List ℤ) (r : Whole version c w q) where
-  pub count-back : at (fieldNumbers ch c w q) 281 ≡ c .fifo .count
+module _ (version : SguVersion) (number : ℕ) (c : Channel) (w : List ℕ) (q : List ℤ) (r : Whole version c w q) where
+  pub count-back : at (fieldNumbers number c w q) 281 ≡ c .fifo .count
   unfolding queueNumbers
-  count-back = in-queue ch c w q 0 ∙ least (c .fifo .count) (r .queue .ranges .full)
+  count-back = in-queue number c w q 0 ∙ least (c .fifo .count) (r .queue .ranges .full)
     where
       least : (n : ℕ) → n ≤ fifoCapacity → min n fifoCapacity ≡ n
       least n h = omega arith
 
-  pub table-back : tableOf (at (fieldNumbers ch c w q)) ≡ w
+  pub table-back : tableOf (at (fieldNumbers number c w q)) ≡ w
   unfolding tableOf
-  table-back = entries-are lowByte (at (fieldNumbers ch c w q)) 0 w 25 256 (r .table) (λ i h. ap lowByte (in-table ch c w q i ∙ before (tableNumbers w) (queueNumbers (c .fifo) q) i (omega (arith, size-table w)) ∙ nth-table w i h) ∙ byte-back (getD w i 0) (r .bytes i))
+  table-back = entries-are lowByte (at (fieldNumbers number c w q)) 0 w 25 256 (r .table) (λ i h. ap lowByte (in-table number c w q i ∙ before (tableNumbers w) (queueNumbers (c .fifo) q) i (omega (arith, size-table w)) ∙ nth-table w i h) ∙ byte-back (getD w i 0) (r .bytes i))
 
-  pub samples-back : queuedSamples (at (fieldNumbers ch c w q)) (at (fieldNumbers ch c w q) 281) ≡ queuedOf (c .fifo) q
+  pub samples-back : queuedSamples (at (fieldNumbers number c w q)) (at (fieldNumbers number c w q) 281) ≡ queuedOf (c .fifo) q
   unfolding queuedSamples queueNumbers
   samples-back =
-      let F = at (fieldNumbers ch c w q) in
+      let F = at (fieldNumbers number c w q) in
       let head = c .fifo .head in
       let n = min (c .fifo .count) fifoCapacity in
-      let many : F 281 ≡ n = in-queue ch c w q 0 in
+      let many : F 281 ≡ n = in-queue number c w q 0 in
       entries-are sampleOfNumber F (pos 0) (queuedOf (c .fifo) q) 282 (F 281) (length-queued q head n ∙ sym many) (λ i h.
       let k : i < n = omega (arith, many) in
       ap (λ (j : ℕ). sampleOfNumber (F j)) (next i)
-      ∙ ap sampleOfNumber (in-queue ch c w q (suc i) ∙ nth-queue q head n i k)
+      ∙ ap sampleOfNumber (in-queue number c w q (suc i) ∙ nth-queue q head n i k)
       ∙ sample-back (getD q ((head + i) % fifoCapacity) (pos 0)) (r .entries .each ((head + i) % fifoCapacity))
       ∙ sym (nth-queued q head n i k))
     where
       next : (i : ℕ) → 282 + i ≡ 281 + suc i
       next i = omega arith
 
-  pub channel-back : channelFrom (at (fieldNumbers ch c w q)) (fifoOf (at (fieldNumbers ch c w q))) ≡ sessionOf ch c w q .channel
+  pub channel-back : channelFrom (at (fieldNumbers number c w q)) (fifoOf (at (fieldNumbers number c w q))) ≡ sessionOf number c w q .channel
   unfolding channelFrom fieldNumbers stateNumbers
   channel-back =
       λ i. record {
@@ -187,10 +187,10 @@ module _ (version : SguVersion) (ch : ℕ) (c : Channel) (w : List ℕ) (q : Lis
         };
       }
 
-  number-is : at (fieldNumbers ch c w q) 0 ≡ ch
+  number-is : at (fieldNumbers number c w q) 0 ≡ number
   unfolding fieldNumbers stateNumbers
   number-is = refl
 
-  pub fields-back : voiceOf (at (fieldNumbers ch c w q)) (fifoOf (at (fieldNumbers ch c w q))) ≡ sessionOf ch c w q
+  pub fields-back : voiceOf (at (fieldNumbers number c w q)) (fifoOf (at (fieldNumbers number c w q))) ≡ sessionOf number c w q
   unfolding voiceOf
   fields-back = λ i. record { number = number-is i; channel = channel-back i; wavetable = table-back i; samples = samples-back i }

@@ -1,8 +1,9 @@
--- What is decided of ambiguous texts, computed on the definitions; crate line has the fields. Assumes nothing.
+-- What is decided of ambiguous texts, computed on the definitions; crate line_fields has the fields. Assumes nothing.
 use mathlib.Core.Path.{_≡_, refl}
 use mathlib.Core.List.{List, [], _∷_}
 use Prim.Native.Nat.{ℕ}
 use lib.IntN.{ℤ}
+use Rattle.cores.specs.Sizes.{chipVoices}
 use Rattle.decimal.specs.Read.{naturalAt}
 use Rattle.line_fields.specs.Reading.{closedAt}
 use Rattle.voice.specs.declared.Channel.{Channel}
@@ -10,8 +11,8 @@ use Rattle.session_lines.specs.Lines.{voiceText}
 use Rattle.session_lines.specs.Head.{hasMagic, behindVersion, readHead}
 use Rattle.session_lines.specs.declared.HeadLine.the-variants as head
 
--- a channel above 7 has no line
-no-line : (c : Channel) (wavetable : List ℕ) (q : List ℤ) → voiceText 8 c wavetable q ≡ []
+-- no voice above 15 has a line
+no-line : (c : Channel) (wavetable : List ℕ) (q : List ℤ) → voiceText chipVoices c wavetable q ≡ []
 unfolding voiceText
 no-line c wavetable q = refl
 

@@ -2,13 +2,14 @@
 use mathlib.Core.Path.{_≡_, refl, sym, subst}
 use mathlib.Core.Bool.{Bool, true, false}
 use mathlib.Core.List.{List, _++_, map}
-use Prim.Native.Nat.{ℕ, zero, suc, _+_, _%_, _≤_, _<_, min}
+use Prim.Native.Nat.{ℕ, zero, suc, _+_, _-_, _%_, _≤_, _<_, min}
 use native.Mathlib.Omega.{arith}
 use lib.IntN.{ℤ, pos}
 use lib.ListN.{getD}
 use mir.Syntax.{w16}
 use mir.Val.{ofZ}
 use Rattle.sizes.specs.Sizes.{fifoCapacity}
+use Rattle.cores.specs.Sizes.{chipVoices}
 use Rattle.num.proofs.Choice.{never}
 use Rattle.line_fields.specs.Table.{mostOf}
 use Rattle.line_fields.proofs.Bounds.{bits-small}
@@ -29,9 +30,9 @@ use Rattle.session_lines.proofs.Whole.{size-states}
 use Rattle.session_lines.proofs.Back.{Whole}
 
 -- a voice's numbers are in range: those of its registers and state, and of its wavetable and queue
-pub record InRange (version : SguVersion) (ch : ℕ) (c : Channel) (w : List ℕ) (q : List ℤ) : Type 0 where
-  pub voice : ch ≤ 7
-  pub first : Within (has3ws8pna version) 0 (stateNumbers ch c ++ tableNumbers w)
+pub record InRange (version : SguVersion) (number : ℕ) (c : Channel) (w : List ℕ) (q : List ℤ) : Type 0 where
+  pub voice : number < chipVoices
+  pub first : Within (has3ws8pna version) 0 (stateNumbers number c ++ tableNumbers w)
   pub samples : Within (has3ws8pna version) 282 (map (ofZ w16) (queuedOf (c .fifo) q))
 
 infixr 20 _also_
@@ -83,15 +84,15 @@ bits-below q e h zero i = omega arith
 bits-below q e h (suc n) zero = bits-small (getD q (h % fifoCapacity) (pos 0)) (e .each (h % fifoCapacity))
 bits-below q e h (suc n) (suc i) = bits-below q e (h + 1) n i
 
-module _ (version : SguVersion) (ch : ℕ) (c : Channel) (w : List ℕ) (q : List ℤ) (h : ch ≤ 7) (r : Whole version c w q) where
+module _ (version : SguVersion) (number : ℕ) (c : Channel) (w : List ℕ) (q : List ℤ) (h : number < chipVoices) (r : Whole version c w q) where
   abbrev fifo : Bool
   fifo = has3ws8pna version
 
-  states-within : Within fifo 0 (stateNumbers ch c)
+  states-within : Within fifo 0 (stateNumbers number c)
   unfolding stateNumbers mostOf
   states-within =
-      each-within fifo 0 (stateNumbers ch c)
-      (h
+      each-within fifo 0 (stateNumbers number c)
+      (below _ (chipVoices - 1) h
       also below _ 65535 (r .registers .frequency)
       also wave-most fifo (c .registers .«waveform_type») (r .accepted .fifo)
       also below _ 255 (r .registers .volume)
@@ -122,9 +123,9 @@ module _ (version : SguVersion) (ch : ℕ) (c : Channel) (w : List ℕ) (q : Lis
   unfolding tableNumbers
   table-within i = omega (arith, entries-below (at w) 255 (λ j. below (at w j) 255 (r .bytes j)) 0 256 i, most-on fifo (25 + i) (omega arith))
 
-  pub inside : InRange version ch c w q
+  pub inside : InRange version number c w q
   inside = record {
     voice = h;
-    first = both fifo 0 (stateNumbers ch c) (tableNumbers w) states-within (subst (λ (n : ℕ). Within fifo (0 + n) (tableNumbers w)) (sym (size-states ch c)) table-within);
+    first = both fifo 0 (stateNumbers number c) (tableNumbers w) states-within (subst (λ (n : ℕ). Within fifo (0 + n) (tableNumbers w)) (sym (size-states number c)) table-within);
     samples = λ i. rw (most-sample fifo (282 + i) (omega arith)) (bits-below q (r .entries) (c .fifo .head) (min (c .fifo .count) fifoCapacity) i);
   }

@@ -2,7 +2,7 @@
 use mathlib.Core.Path.{_≡_, refl, sym, ap, _∙_, subst}
 use mathlib.Core.Bool.{Bool, true, false, cond}
 use mathlib.Core.List.{List, [], _∷_, map}
-use Prim.Native.Nat.{ℕ, zero, suc, _%_, _^_, _≤_, _<_}
+use Prim.Native.Nat.{ℕ, zero, suc, _-_, _%_, _^_, _≤_, _<_}
 use native.Mathlib.Omega.{arith}
 use lib.IntN.{ℤ, pos}
 use lib.ListN.{length, getD}
@@ -10,6 +10,7 @@ use mir.Syntax.{w16}
 use mir.Val.{SFits}
 use borrow.Author.Tests.{le-leb, lt-ltb}
 use Rattle.sizes.specs.Sizes.{fifoCapacity}
+use Rattle.cores.specs.Sizes.{chipVoices}
 use Rattle.num.proofs.Choice.{cond-by, together, never}
 use Rattle.num.proofs.Integers.{fit}
 use Rattle.line_fields.specs.Table.{mostOf, sampleOfNumber}
@@ -123,10 +124,10 @@ taken-whole version ns queue k g =
       table = size-read-table (at ns);
     }
 
--- ---- what a line's reading gives: one of the eight voices, whole, as many samples as its queue counts; accepted over any RAM, its cache empty and
+-- ---- what a line's reading gives: one of the chip's voices, whole, as many samples as its queue counts; accepted over any RAM, its cache empty and
 -- its queue's head at 0
 pub record Told (version : SguVersion) (v : NumberedVoice) : Type 0 where
-  pub eight : v .number ≤ 7
+  pub named : v .number < chipVoices
   pub whole : Whole version (v .channel) (v .wavetable) (v .samples)
   pub many : length (v .samples) ≡ v .channel .fifo .count
   pub accepted : (ram : ℕ) → AcceptedChannel (v .channel) version ram
@@ -135,7 +136,7 @@ pub record Told (version : SguVersion) (v : NumberedVoice) : Type 0 where
 
 numbers-told : (version : SguVersion) (ns : List ℕ) (queue : Fifo) → Queue version queue → Good (has3ws8pna version) ns → Told version (voiceOf (at ns) queue)
 unfolding mostOf voiceOf channelFrom
-numbers-told version ns queue k g = record { eight = g .within 0; whole = taken-whole version ns queue k g; many = size-samples (at ns) (queue .count); accepted = λ ram. taken-accepted version ns queue ram k g; cache = refl; first = k .first }
+numbers-told version ns queue k g = let first : at ns 0 ≤ chipVoices - 1 = g .within 0 in record { named = omega (arith, first); whole = taken-whole version ns queue k g; many = size-samples (at ns) (queue .count); accepted = λ ram. taken-accepted version ns queue ram k g; cache = refl; first = k .first }
 
 -- whether it is read as a stored line or as any
 pub read-told : (stored : Bool) (version : SguVersion) (text : List ℕ) (v : NumberedVoice) → readAs stored version text ≡ voice v → Told version v

@@ -7,8 +7,9 @@ use native.Mathlib.Omega.{arith}
 use lib.IntN.{ℤ}
 use lib.ListN.{length, getD, drop, take, length-append, replicate, length-replicate}
 use lib.Seq.{sets, length-sets, sets-eq, take-at, getD-drop}
-use borrow.Author.Tests.{le-leb, lt-leb}
+use borrow.Author.Tests.{le-leb, lt-ltb, le-ltb}
 use Rattle.sizes.specs.Sizes.{fifoCapacity}
+use Rattle.cores.specs.Sizes.{chipVoices}
 use Rattle.num.proofs.Lists.{sets-append}
 use Rattle.line_fields.specs.Text.{lineText, writtenOf, putOf}
 use Rattle.line_fields.specs.Reading.{ReadLine, line, malformed, readLine, fieldsOf, lineNumbers}
@@ -103,9 +104,9 @@ pub after-no : (r : ReadVoice) (field : ℕ) (c : Channel) (w : List ℕ) (q : L
 after-no r field c w q e = after-same r (lines.malformed field) c c w w q q e (refl, (refl, refl))
 
 -- ---- written
-pub size-states : (ch : ℕ) (c : Channel) → length (stateNumbers ch c) ≡ 25
+pub size-states : (number : ℕ) (c : Channel) → length (stateNumbers number c) ≡ 25
 unfolding stateNumbers
-size-states ch c = refl
+size-states number c = refl
 
 size-queue-numbers : (c : Channel) (q : List ℤ) → length (queueNumbers (c .fifo) q) ≡ 1 + min (c .fifo .count) fifoCapacity
 unfolding queueNumbers
@@ -114,37 +115,37 @@ size-queue-numbers c q = ap suc (size-queue q (c .fifo .head) (min (c .fifo .cou
     one : (n : ℕ) → suc n ≡ 1 + n
     one n = omega arith
 
-pub size-numbers : (ch : ℕ) (c : Channel) (w : List ℕ) (q : List ℤ) → length (fieldNumbers ch c w q) ≡ 282 + min (c .fifo .count) fifoCapacity
+pub size-numbers : (number : ℕ) (c : Channel) (w : List ℕ) (q : List ℤ) → length (fieldNumbers number c w q) ≡ 282 + min (c .fifo .count) fifoCapacity
 unfolding fieldNumbers
-size-numbers ch c w q =
-    let S = stateNumbers ch c in
+size-numbers number c w q =
+    let S = stateNumbers number c in
     let T = tableNumbers w in
     let Q = queueNumbers (c .fifo) q in
-    omega (arith, length-append S (T ++ Q), length-append T Q, size-states ch c, size-table w, size-queue-numbers c q)
+    omega (arith, length-append S (T ++ Q), length-append T Q, size-states number c, size-table w, size-queue-numbers c q)
 
-pub parts-of : (ch : ℕ) (c : Channel) (w : List ℕ) (q : List ℤ) → fieldNumbers ch c w q ≡ stateNumbers ch c ++ (tableNumbers w ++ queueNumbers (c .fifo) q)
+pub parts-of : (number : ℕ) (c : Channel) (w : List ℕ) (q : List ℤ) → fieldNumbers number c w q ≡ stateNumbers number c ++ (tableNumbers w ++ queueNumbers (c .fifo) q)
 unfolding fieldNumbers
-parts-of ch c w q = refl
+parts-of number c w q = refl
 
-pub text-is : (ch : ℕ) (c : Channel) (w : List ℕ) (q : List ℤ) → ch ≤ 7 → voiceText ch c w q ≡ lineText (fieldNumbers ch c w q)
+pub text-is : (number : ℕ) (c : Channel) (w : List ℕ) (q : List ℤ) → number < chipVoices → voiceText number c w q ≡ lineText (fieldNumbers number c w q)
 unfolding voiceText
-text-is ch c w q h = rw (le-leb ch 7 h)
+text-is number c w q h = rw (lt-ltb number chipVoices h)
 
-text-none : (ch : ℕ) (c : Channel) (w : List ℕ) (q : List ℤ) → 7 < ch → voiceText ch c w q ≡ []
+text-none : (number : ℕ) (c : Channel) (w : List ℕ) (q : List ℤ) → chipVoices ≤ number → voiceText number c w q ≡ []
 unfolding voiceText
-text-none ch c w q h = rw (lt-leb ch 7 h)
+text-none number c w q h = rw (le-ltb number chipVoices h)
 
 pub room : (S T Q l a b d : List ℕ) (n count : ℕ) → 2330 ≤ length l → a ≡ sets l 0 S → b ≡ sets a 25 T → d ≡ sets b 281 Q → count ≡ min n fifoCapacity → 282 + count ≤ length d
 room S T Q l a b d n count h e f g k =
     omega (arith, ap length e ∙ length-sets l 0 S, ap length f ∙ length-sets a 25 T, ap length g ∙ length-sets b 281 Q)
 
 -- the three parts put one behind the other are the voice's numbers
-pub packed : (ch : ℕ) (c : Channel) (w : List ℕ) (q : List ℤ) (l a b d : List ℕ) (count : ℕ) → 2330 ≤ length l → a ≡ sets l 0 (stateNumbers ch c) → b ≡ sets a 25 (tableNumbers w) → d ≡ sets b 281 (queueNumbers (c .fifo) q) → count ≡ min (c .fifo .count) fifoCapacity → take (282 + count) d ≡ fieldNumbers ch c w q
-packed ch c w q l a b d count room e f g h =
-    ap (take (282 + count)) all ∙ ap (take (282 + count)) (sets-eq N l 0 (omega (arith, size-numbers ch c w q))) ∙ take-at N (drop (0 + length N) l) (282 + count) (size-numbers ch c w q ∙ ap (λ (n : ℕ). 282 + n) (sym h))
+pub packed : (number : ℕ) (c : Channel) (w : List ℕ) (q : List ℤ) (l a b d : List ℕ) (count : ℕ) → 2330 ≤ length l → a ≡ sets l 0 (stateNumbers number c) → b ≡ sets a 25 (tableNumbers w) → d ≡ sets b 281 (queueNumbers (c .fifo) q) → count ≡ min (c .fifo .count) fifoCapacity → take (282 + count) d ≡ fieldNumbers number c w q
+packed number c w q l a b d count room e f g h =
+    ap (take (282 + count)) all ∙ ap (take (282 + count)) (sets-eq N l 0 (omega (arith, size-numbers number c w q))) ∙ take-at N (drop (0 + length N) l) (282 + count) (size-numbers number c w q ∙ ap (λ (n : ℕ). 282 + n) (sym h))
   where
     S : List ℕ
-    S = stateNumbers ch c
+    S = stateNumbers number c
 
     T : List ℕ
     T = tableNumbers w
@@ -153,7 +154,7 @@ packed ch c w q l a b d count room e f g h =
     Q = queueNumbers (c .fifo) q
 
     N : List ℕ
-    N = fieldNumbers ch c w q
+    N = fieldNumbers number c w q
 
     second : (n : ℕ) → n ≡ 25 → 25 ≡ 0 + n
     second n e = omega arith
@@ -162,22 +163,22 @@ packed ch c w q l a b d count room e f g h =
     third n m e f = omega arith
 
     joined : sets l 0 (S ++ (T ++ Q)) ≡ sets l 0 N
-    joined = ap (sets l 0) (sym (parts-of ch c w q))
+    joined = ap (sets l 0) (sym (parts-of number c w q))
 
     all : d ≡ sets l 0 N
     all =
         g
         ∙ ap (λ (x : List ℕ). sets x 281 Q) (f ∙ ap (λ (x : List ℕ). sets x 25 T) e)
-        ∙ ap (λ (k : ℕ). sets (sets (sets l 0 S) k T) 281 Q) (second (length S) (size-states ch c))
-        ∙ ap (λ (k : ℕ). sets (sets (sets l 0 S) (0 + length S) T) k Q) (third (length S) (length T) (size-states ch c) (size-table w))
+        ∙ ap (λ (k : ℕ). sets (sets (sets l 0 S) k T) 281 Q) (second (length S) (size-states number c))
+        ∙ ap (λ (k : ℕ). sets (sets (sets l 0 S) (0 + length S) T) k Q) (third (length S) (length T) (size-states number c) (size-table w))
         ∙ sym (sets-append T Q (sets l 0 S) (0 + length S))
         ∙ sym (sets-append S (T ++ Q) l 0)
         ∙ joined
 
-pub write-yes : (ch : ℕ) (c : Channel) (w : List ℕ) (q : List ℤ) (out after ns : List ℕ) (r : Written) → ch ≤ 7 → ns ≡ fieldNumbers ch c w q → r ≡ writtenOf out (lineText ns) → after ≡ putOf out (lineText ns) → (r ≡ writtenOf out (voiceText ch c w q)) × (after ≡ putOf out (voiceText ch c w q))
-write-yes ch c w q out after ns r h e x y =
-    let t : lineText ns ≡ voiceText ch c w q = ap lineText e ∙ sym (text-is ch c w q h) in
+pub write-yes : (number : ℕ) (c : Channel) (w : List ℕ) (q : List ℤ) (out after ns : List ℕ) (r : Written) → number < chipVoices → ns ≡ fieldNumbers number c w q → r ≡ writtenOf out (lineText ns) → after ≡ putOf out (lineText ns) → (r ≡ writtenOf out (voiceText number c w q)) × (after ≡ putOf out (voiceText number c w q))
+write-yes number c w q out after ns r h e x y =
+    let t : lineText ns ≡ voiceText number c w q = ap lineText e ∙ sym (text-is number c w q h) in
     (x ∙ ap (writtenOf out) t, y ∙ ap (putOf out) t)
 
-pub write-none : (ch : ℕ) (c : Channel) (w : List ℕ) (q : List ℤ) (out : List ℕ) → 7 < ch → (Length 0 ≡ writtenOf out (voiceText ch c w q)) × (out ≡ putOf out (voiceText ch c w q))
-write-none ch c w q out h = rw (text-none ch c w q h, le-leb 0 (length out) (omega arith)) (refl, refl)
+pub write-none : (number : ℕ) (c : Channel) (w : List ℕ) (q : List ℤ) (out : List ℕ) → chipVoices ≤ number → (Length 0 ≡ writtenOf out (voiceText number c w q)) × (out ≡ putOf out (voiceText number c w q))
+write-none number c w q out h = rw (text-none number c w q h, le-leb 0 (length out) (omega arith)) (refl, refl)

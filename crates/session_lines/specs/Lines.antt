@@ -2,9 +2,10 @@
 use mathlib.Core.Bool.{Bool, true, false, cond}
 use mathlib.Core.List.{List, [], _∷_}
 use Prim.Native.Nat.{ℕ}
-use lib.Dec.{leb}
+use lib.Dec.{ltb}
 use lib.IntN.{ℤ}
 use lib.Seq.{sets}
+use Rattle.cores.specs.Sizes.{chipVoices}
 use Rattle.line_fields.specs.Text.{lineText}
 use Rattle.line_fields.specs.Reading.{ReadLine, line, readLine}
 use Rattle.line_fields.specs.Reading as lines
@@ -28,17 +29,17 @@ pub record NumberedVoice : Type 0 where
 
 -- ---- written
 
--- the line of voice ch, whose queue's entries are q; no voice above 7 has one
+-- the line of a voice, whose queue's entries are q; no voice above 15 has one
 unfoldable pub voiceText : ℕ → Channel → List ℕ → List ℤ → List ℕ
-voiceText ch c wavetable q = cond (leb ch 7) (lineText (fieldNumbers ch c wavetable q)) []
+voiceText voice c wavetable q = cond (ltb voice chipVoices) (lineText (fieldNumbers voice c wavetable q)) []
 
 -- what the line tells of it: without the cache, and with the queue's head at 0
 abbrev pub atStart : Fifo → Fifo
 atStart f = record { head = 0; count = f .count; held = f .held; hold = f .hold; sub = f .sub; latch = f .latch }
 
 abbrev pub sessionOf : ℕ → Channel → List ℕ → List ℤ → NumberedVoice
-sessionOf ch c wavetable q =
-    record { number = ch; channel = setStream (setFifo c (atStart (c .fifo))) emptied; wavetable = wavetable; samples = queuedOf (c .fifo) q }
+sessionOf voice c wavetable q =
+    record { number = voice; channel = setStream (setFifo c (atStart (c .fifo))) emptied; wavetable = wavetable; samples = queuedOf (c .fifo) q }
 
 -- ---- read
 
@@ -96,7 +97,7 @@ queueAfter queued q = q
 
 -- the number of an answer in documents 01 and 02, and the field at fault
 abbrev pub voiceLineNumber : VoiceLine → List ℕ
-voiceLineNumber (told.Voice ch) = []
+voiceLineNumber (told.Voice n) = []
 voiceLineNumber (told.Malformed field) = 16 ∷ field ∷ []
 voiceLineNumber told.Queued = 23 ∷ []
 

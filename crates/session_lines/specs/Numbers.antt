@@ -24,10 +24,10 @@ abbrev pub flag : Bool → ℕ
 flag true = 1
 flag false = 0
 
--- channel, registers, PCM registers, oscillator and what the queue holds beside its samples
+-- voice, registers, PCM registers, oscillator and what the queue holds beside its samples
 unfoldable pub stateNumbers : ℕ → Channel → List ℕ
-stateNumbers ch c =
-    ch
+stateNumbers voice c =
+    voice
     ∷ c .registers .frequency
     ∷ waveformNumber (c .registers .«waveform_type»)
     ∷ c .registers .volume
@@ -75,7 +75,7 @@ unfoldable pub queueNumbers : Fifo → List ℤ → List ℕ
 queueNumbers f q = min (f .count) fifoCapacity ∷ map (ofZ w16) (queuedOf f q)
 
 unfoldable pub fieldNumbers : ℕ → Channel → List ℕ → List ℤ → List ℕ
-fieldNumbers ch c wavetable q = stateNumbers ch c ++ (tableNumbers wavetable ++ queueNumbers (c .fifo) q)
+fieldNumbers voice c wavetable q = stateNumbers voice c ++ (tableNumbers wavetable ++ queueNumbers (c .fifo) q)
 
 -- ---- read: the numbers by their places
 

@@ -19,8 +19,8 @@ fn flag(x: bool) -> u64
     if x { 1 } else { 0 }
 }
 
-pub(crate) fn state_numbers(c: Channel, ch: usize) -> [u64; 25]
-    ensures { λ r. ⌜ r ≡ stateNumbers ch c ⌝ }
+pub(crate) fn state_numbers(c: Channel, voice: usize) -> [u64; 25]
+    ensures { λ r. ⌜ r ≡ stateNumbers voice c ⌝ }
 {
     let g = c.registers;
     let p = c.pcm;
@@ -29,7 +29,7 @@ pub(crate) fn state_numbers(c: Channel, ch: usize) -> [u64; 25]
     let waveform = g.waveform_type;
     let modulation = g.modulation_type;
     [
-        ch as u64,
+        voice as u64,
         g.frequency as u64,
         waveform.number() as u64,
         g.volume as u64,

@@ -9,11 +9,11 @@ ghost use Rattle.line_fields.specs.Text.{writtenOf, putOf, writtenNumber, roomR
 ghost use Rattle.session_lines.specs.Numbers.{tableNumbers, queueNumbers};
 ghost use Rattle.session_lines.specs.Lines.{voiceText};
 use crate::states::state_numbers;
+use cores::CHIP_VOICES;
 use line_fields::Written;
 use line_fields::put_number;
 use registers::Fifo;
 use sizes::FIFO_CAPACITY;
-use sizes::LAST_CHANNEL;
 use voice::Channel;
 
 // Puts some numbers at a buffer's beginning.
@@ -62,24 +62,24 @@ fn put_queue(f: Fifo, queue: &[i16], numbers: &mut [u64]) -> usize
     count
 }
 
-// Writes the line of voice ch, whose wavetable and queue entries are lent, if there is room for it. No voice above 7 has a line.
+// Writes the line of a voice, whose wavetable and queue entries are lent, if there is room for it. No voice above 15 has a line.
 pub fn write_voice(
     c: Channel,
-    ch: usize,
+    voice: usize,
     wavetable: &[u8],
     queue: &[i16],
     out: &mut [u8],
 ) -> Written
-    ensures result { λ r. ⌜ r ≡ writtenOf (now (out .entry)) (voiceText ch c (now (wavetable .entry)) (now (queue .entry))) ⌝ }
-    ensures out { λ r. ⌜ now (out .exit) ≡ putOf (now (out .entry)) (voiceText ch c (now (wavetable .entry)) (now (queue .entry))) ⌝ }
-    ensures number { λ r. ⌜ writtenNumber r ≡ roomRefusal (now (out .entry)) (voiceText ch c (now (wavetable .entry)) (now (queue .entry))) ⌝ }
+    ensures result { λ r. ⌜ r ≡ writtenOf (now (out .entry)) (voiceText voice c (now (wavetable .entry)) (now (queue .entry))) ⌝ }
+    ensures out { λ r. ⌜ now (out .exit) ≡ putOf (now (out .entry)) (voiceText voice c (now (wavetable .entry)) (now (queue .entry))) ⌝ }
+    ensures number { λ r. ⌜ writtenNumber r ≡ roomRefusal (now (out .entry)) (voiceText voice c (now (wavetable .entry)) (now (queue .entry))) ⌝ }
 {
-    if LAST_CHANNEL < ch {
+    if CHIP_VOICES <= voice {
         return Written::Length(0);
     }
     let mut numbers = [0u64; 2330];
     let f = c.fifo;
-    let states = state_numbers(c, ch);
+    let states = state_numbers(c, voice);
     put_first(&states, &mut numbers);
     put_table(wavetable, &mut numbers);
     let count = put_queue(f, queue, &mut numbers);

@@ -8,6 +8,7 @@ use lib.IntN.{ℤ}
 use lib.ListN.{length}
 use lib.Seq.{sets}
 use Rattle.sizes.specs.Sizes.{fifoCapacity}
+use Rattle.cores.specs.Sizes.{chipVoices}
 use Rattle.version.specs.declared.SguVersion.{SguVersion}
 use Rattle.ticks.proofs.Ranges.{accepted-oscillator, oscillator-accepted}
 use Rattle.voice.specs.declared.Channel.{Channel}
@@ -44,10 +45,10 @@ unfolding slotLoaded
 loaded-told v s e = ap (λ (c : Channel). record { channel = c; fragments = s .fragments; wavetable = sets (s .wavetable) 0 (v .wavetable); queue = sets (s .queue) 0 (v .samples) }) e
 
 -- ---- the fields of a voice that is made of fields
-fields-back : (ch : ℕ) (v : PlainVoice) → length (v .queue .samples) ≤ fifoCapacity → plainVoiceOf (sessionOf ch (channelWith v) (v .wavetable) (v .queue .samples)) ≡ v
-fields-back ch v h = ap (λ (l : List ℤ). record { registers = v .registers; pcm = v .pcm; oscillator = v .oscillator; queue = record { samples = l; held = v .queue .held; hold = v .queue .hold; sub = v .queue .sub; latch = v .queue .latch }; wavetable = v .wavetable }) (own-line v h)
+fields-back : (n : ℕ) (v : PlainVoice) → length (v .queue .samples) ≤ fifoCapacity → plainVoiceOf (sessionOf n (channelWith v) (v .wavetable) (v .queue .samples)) ≡ v
+fields-back n v h = ap (λ (l : List ℤ). record { registers = v .registers; pcm = v .pcm; oscillator = v .oscillator; queue = record { samples = l; held = v .queue .held; hold = v .queue .hold; sub = v .queue .sub; latch = v .queue .latch }; wavetable = v .wavetable }) (own-line v h)
 
--- ---- a line tells of one of the eight voices, its fields in their ranges
+-- ---- a line tells of one of the sixteen voices, its fields in their ranges
 none : (l : List ℤ) → length l ≡ 0 → l ≡ []
 none [] n = refl
 none (x ∷ l) n = absurd (omega arith)
@@ -86,8 +87,8 @@ fields-whole version v f = record {
   table = f .table;
 }
 
-ranges : (stored : Bool) (version : SguVersion) (text : List ℕ) (v : NumberedVoice) → readAs stored version text ≡ voice v → (v .number < 8) × FitVoice version (plainVoiceOf v)
-ranges stored version text v e = let t = read-told stored version text v e in (omega (arith, t .eight), whole-fields version v (t .whole) (t .many))
+ranges : (stored : Bool) (version : SguVersion) (text : List ℕ) (v : NumberedVoice) → readAs stored version text ≡ voice v → (v .number < chipVoices) × FitVoice version (plainVoiceOf v)
+ranges stored version text v e = let t = read-told stored version text v e in (t .named, whole-fields version v (t .whole) (t .many))
 
 -- ---- what a session's lines promise
 pub session-is-ok : TextsOk session
@@ -95,10 +96,10 @@ session-is-ok = record {
   head-back = λ version size allowed. ap headRead (head-back version size allowed);
   told = λ version text. go version (readVoice version text) (ranges false version text);
   stored-told = λ version text. go version (readStored version text) (ranges true version text);
-  voice-back = λ version ch v h fit. ap voiceRead (voice-back version ch (channelWith v) (v .wavetable) (v .queue .samples) (omega arith) (fields-whole version v fit)) ∙ ap (texts.voice ch) (fields-back ch v (fit .full));
+  voice-back = λ version n v h fit. ap voiceRead (voice-back version n (channelWith v) (v .wavetable) (v .queue .samples) (omega arith) (fields-whole version v fit)) ∙ ap (texts.voice n) (fields-back n v (fit .full));
 }
   where
-    go : (version : SguVersion) (r : ReadVoice) → ((v : NumberedVoice) → r ≡ voice v → (v .number < 8) × FitVoice version (plainVoiceOf v)) → Told version (voiceRead r)
+    go : (version : SguVersion) (r : ReadVoice) → ((v : NumberedVoice) → r ≡ voice v → (v .number < chipVoices) × FitVoice version (plainVoiceOf v)) → Told version (voiceRead r)
     go version (voice v) h = h v refl
     go version (malformed field) h = tt
     go version queued h = tt

@@ -39,10 +39,10 @@ module _ (version : SguVersion) (ram : List ℕ) (s : Slot) (ok : SlotOk version
   long : length queue ≡ s .channel .fifo .count
   long = length-queued (s .queue) (s .channel .fifo .head) (s .channel .fifo .count)
 
-  fields-same : (ch : ℕ) → sessionOf ch (s .channel) (s .wavetable) (s .queue) ≡ sessionOf ch (channelWith (plainOf s)) (s .wavetable) queue
-  fields-same ch =
-      ap₂ (λ (n : ℕ) (l : List ℤ). record { number = ch; channel = setStream (setFifo (s .channel) (setCount (atStart (s .channel .fifo)) n)) emptied; wavetable = s .wavetable; samples = l })
+  fields-same : (n : ℕ) → sessionOf n (s .channel) (s .wavetable) (s .queue) ≡ sessionOf n (channelWith (plainOf s)) (s .wavetable) queue
+  fields-same n =
+      ap₂ (λ (k : ℕ) (l : List ℤ). record { number = n; channel = setStream (setFifo (s .channel) (setCount (atStart (s .channel .fifo)) k)) emptied; wavetable = s .wavetable; samples = l })
       (sym long) (told-line ∙ sym (own-line (plainOf s) (omega (arith, long, ok .accepted .fifo .ranges .full))))
 
-  pub text-plain : (ch : ℕ) → voiceText ch (s .channel) (s .wavetable) (s .queue) ≡ plainText ch (plainOf s)
-  text-plain ch = same-text ch ch (s .channel) (channelWith (plainOf s)) (s .wavetable) (s .wavetable) (s .queue) queue (fields-same ch)
+  pub text-plain : (n : ℕ) → voiceText n (s .channel) (s .wavetable) (s .queue) ≡ plainText n (plainOf s)
+  text-plain n = same-text n n (s .channel) (channelWith (plainOf s)) (s .wavetable) (s .wavetable) (s .queue) queue (fields-same n)

@@ -22,7 +22,7 @@ plainVoiceOf v = record {
 
 -- the line of a voice with these fields
 abbrev pub plainText : ℕ → PlainVoice → List ℕ
-plainText ch v = voiceText ch (channelWith v) (v .wavetable) (v .queue .samples)
+plainText n v = voiceText n (channelWith v) (v .wavetable) (v .queue .samples)
 
 abbrev pub voiceRead : ReadVoice → VoiceRead
 voiceRead (voice v) = texts.voice (v .number) (plainVoiceOf v)

@@ -1,28 +1,27 @@
 -- Frames added to a side, one more. Assumes nothing.
 use mathlib.Core.Path.{_≡_, refl}
 use mathlib.Core.List.{List}
-use Prim.Native.Nat.{ℕ, zero, suc, _+_, _*_}
+use Prim.Native.Nat.{ℕ, zero, suc, _+_}
 use native.Mathlib.Numerals.{add-one}
 use native.Mathlib.Omega.{arith}
 use lib.IntN.{ℤ, pos}
 use lib.ListN.{length, getD, set, length-set}
 use mir.Syntax.{w16, w32}
 use mir.Val.{toZ, ofZ, SFits}
-use Rattle.sizes.specs.Sizes.{numChannels, stemsPerFrame}
 use Rattle.num.specs.Integers.{clamp16}
 use Rattle.tone.specs.Mix.{saturatingAdd, wrappingAdd}
 use Rattle.num.proofs.Integers.{back}
-use Rattle.sides.specs.Sides.{sideSum, saturating, wrapping, framesIn, addedTo, StemRoom}
+use Rattle.sides.specs.Sides.{sideOf, saturating, wrapping, framesIn, addedTo, StemRoom}
 
-module _ (plus : ℤ → ℤ → ℤ) (stems : List ℤ) (hand first : ℕ) (side : List ℤ) where
-  pub added-length : (n : ℕ) → length (addedTo plus n stems hand first side) ≡ length side
+module _ (plus : ℤ → ℤ → ℤ) (stems others : List ℤ) (hand first : ℕ) (side : List ℤ) where
+  pub added-length : (n : ℕ) → length (addedTo plus n stems others hand first side) ≡ length side
   unfolding addedTo
   added-length zero = refl
   added-length (suc n) = simp length-set (added-length n)
 
   -- from what the two calls of a turn say
-  pub added-next : (n : ℕ) (l : List ℤ) (sum y : ℤ) → l ≡ addedTo plus n stems hand first side → sum ≡ sideSum numChannels stems (stemsPerFrame * n + hand) → y ≡ plus (getD l (first + n) (pos 0)) sum
-      → set l (first + n) y ≡ addedTo plus (n + 1) stems hand first side
+  pub added-next : (n : ℕ) (l : List ℤ) (sum y : ℤ) → l ≡ addedTo plus n stems others hand first side → sum ≡ sideOf n hand stems others → y ≡ plus (getD l (first + n) (pos 0)) sum
+      → set l (first + n) y ≡ addedTo plus (n + 1) stems others hand first side
   unfolding addedTo
   added-next n l sum y el es ey = rw (ey, es, el, add-one n) refl
 

@@ -38,3 +38,11 @@ module _ (stems : List ℤ) (from ch sum : ℕ) where
 
       pub next-small : natAbs (toZ w32 (ofZ w32 (toZ w32 sum +ℤ wide))) ≤ 32768 * (ch + 1)
       next-small = rw (back w32 _ sum-fits) sum-small
+
+-- the sides of two cores, as one core's sum is handed to the other's
+module _ (x y : ℤ) (fx : SFits w32 x) (fy : SFits w32 y) where
+  pub both-fits : natAbs x ≤ 262144 → natAbs y ≤ 262144 → SFits w32 (toZ w32 (ofZ w32 x) +ℤ toZ w32 (ofZ w32 y))
+  both-fits h k = rw (back w32 x fx, back w32 y fy) (fit-abs w32 _ 524288 (omega (arith, h, k, abs-add x y)) (omega arith))
+
+  pub both-is : (u v r : ℤ) → x ≡ u → y ≡ v → r ≡ toZ w32 (ofZ w32 x) +ℤ toZ w32 (ofZ w32 y) → r ≡ u +ℤ v
+  both-is u v r eu ev e = rw (back w32 x fx, back w32 y fy, eu, ev) at e

@@ -1,8 +1,10 @@
--- Frames of stems added to a side: a frame has 16, channel 0 left, channel 0 right, channel 1 left and so on.
+-- Frames of two cores' stems added to a side: of a core a frame has 16, channel 0 left, channel 0 right, channel 1 left and so on.
+use mathlib.Core.Bool.{cond}
 use mathlib.Core.List.{List}
 use Prim.Native.Nat.{ℕ, zero, suc, _+_, _-_, _*_, _/_, _≤_, min}
+use lib.Dec.{leb}
 use lib.IntN.{ℤ, pos, _+ℤ_}
-use lib.ListN.{getD, set}
+use lib.ListN.{length, getD, set}
 use Rattle.sizes.specs.Sizes.{numChannels, stemsPerFrame}
 use Rattle.num.specs.Integers.{clamp16}
 use Rattle.tone.specs.Mix.{saturatingAdd, wrappingAdd}
@@ -11,6 +13,12 @@ use Rattle.tone.specs.Mix.{saturatingAdd, wrappingAdd}
 unfoldable pub sideSum : ℕ → List ℤ → ℕ → ℤ
 sideSum zero stems from = pos 0
 sideSum (suc n) stems from = sideSum n stems from +ℤ getD stems (from + 2 * n) (pos 0)
+
+-- frame n of the first core's stems and of the second core's, where these have the whole frame: its left side (hand 0) or its right one (hand 1)
+unfoldable pub sideOf : ℕ → ℕ → List ℤ → List ℤ → ℤ
+sideOf n hand stems others =
+    let at = stemsPerFrame * n + hand in
+    cond (leb (stemsPerFrame * (n + 1)) (length others)) (sideSum numChannels stems at +ℤ sideSum numChannels others at) (sideSum numChannels stems at)
 
 -- the frames that there are stems and room for, given the lengths of stems and sides
 unfoldable pub framesIn : ℕ → ℕ → ℕ → ℕ → ℕ
@@ -23,12 +31,12 @@ saturating held sum = saturatingAdd held (clamp16 sum)
 abbrev pub wrapping : ℤ → ℤ → ℤ
 wrapping held sum = wrappingAdd held sum
 
--- n frames added from place `first` on; the left side takes the stems from 0 on, the right one those from 1 on
-unfoldable pub addedTo : (ℤ → ℤ → ℤ) → ℕ → List ℤ → ℕ → ℕ → List ℤ → List ℤ
-addedTo plus zero stems hand first side = side
-addedTo plus (suc n) stems hand first side =
-    let l = addedTo plus n stems hand first side in
-    set l (first + n) (plus (getD l (first + n) (pos 0)) (sideSum numChannels stems (stemsPerFrame * n + hand)))
+-- n frames added from place `first` on
+unfoldable pub addedTo : (ℤ → ℤ → ℤ) → ℕ → List ℤ → List ℤ → ℕ → ℕ → List ℤ → List ℤ
+addedTo plus zero stems others hand first side = side
+addedTo plus (suc n) stems others hand first side =
+    let l = addedTo plus n stems others hand first side in
+    set l (first + n) (plus (getD l (first + n) (pos 0)) (sideOf n hand stems others))
 
 -- stems and room for n frames
 pub record StemRoom (n hand first stems side : ℕ) : Type 0 where

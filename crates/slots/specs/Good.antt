@@ -16,8 +16,9 @@ use Rattle.ticks.specs.Oscillators.{FitOscillator}
 use Rattle.voice.specs.Accepted.{AcceptedChannel}
 use Rattle.voice.specs.declared.Channel.{Channel}
 use Rattle.slots.specs.Slots.{Slot}
-use Rattle.slots.specs.Models.{SlotChip}
-use Rattle.plain_chip.specs.Good.{Bytes, ChipOk}
+use Rattle.slots.specs.Models.{SlotPair}
+use Rattle.plain_chip.specs.Good.{Bytes}
+use Rattle.pair_chip.specs.Pairs.{PairOk}
 
 -- the ranges that the types give
 pub record FitChannel (c : Channel) : Type 0 where
@@ -51,5 +52,5 @@ pub record AcceptedSlot (version : SguVersion) (ram : ℕ) (s : Slot) : Type 0 w
   pub room : length (s .queue) ≡ fifoCapacity
   pub entries : FitEntries (s .queue)
 
-abbrev pub SlotChipOk : SlotChip → Type 0
-SlotChipOk w = ChipOk SlotOk w
+abbrev pub SlotPairOk : SlotPair → Type 0
+SlotPairOk w = PairOk SlotOk w

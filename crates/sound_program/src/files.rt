@@ -3,11 +3,13 @@ use crate::Run;
 use crate::Sound;
 use crate::measuring::print_last;
 use crate::playing::play;
+use cores::CHIP_STEMS;
+use cores::CHIP_VOICES;
 use program::say;
 use sizes::SAMPLE_RATE;
 
-// The descriptor of channel 0's file.
-pub(crate) const FIRST_CHANNEL: i32 = 3;
+// The descriptor of voice 0's file.
+pub(crate) const FIRST_VOICE: i32 = 3;
 
 // The bits of a sample.
 const BITS: u16 = 16;
@@ -48,13 +50,13 @@ fn files_of(sound: Sound) -> Files {
         },
         Sound::Stems => Files {
             count: 1,
-            channels: 16,
+            channels: CHIP_STEMS as u16,
             first: libc::STDOUT_FILENO,
         },
         Sound::Split => Files {
-            count: 8,
+            count: CHIP_VOICES,
             channels: 2,
-            first: FIRST_CHANNEL,
+            first: FIRST_VOICE,
         },
         Sound::Levels => Files {
             count: 0,
@@ -64,11 +66,11 @@ fn files_of(sound: Sound) -> Files {
     }
 }
 
-// The descriptor of channel n's file; there are eight.
-pub(crate) fn of_channel(first: i32, n: usize) -> i32 {
-    let descriptors = [3, 4, 5, 6, 7, 8, 9, 10];
-    if first == FIRST_CHANNEL {
-        return descriptors[num::least(n, 7)];
+// The descriptor of voice n's file; there are sixteen.
+pub(crate) fn of_voice(first: i32, n: usize) -> i32 {
+    let descriptors = [3, 4, 5, 6, 7, 8, 9, 10, 11, 12, 13, 14, 15, 16, 17, 18];
+    if first == FIRST_VOICE {
+        return descriptors[num::least(n, CHIP_VOICES - 1)];
     }
     first
 }
@@ -96,7 +98,7 @@ fn put_head(descriptor: i32, place: i64, channels: u16, frames: u64) -> bool {
 fn put_heads(files: Files, place: i64, frames: u64) -> bool {
     let mut n = 0;
     while n < files.count {
-        if !put_head(of_channel(files.first, n), place, files.channels, frames) {
+        if !put_head(of_voice(files.first, n), place, files.channels, frames) {
             return false;
         }
         n += 1;
@@ -108,7 +110,7 @@ fn put_heads(files: Files, place: i64, frames: u64) -> bool {
 fn undo(files: Files, place: i64) {
     let mut n = 0;
     while n < files.count {
-        libc::ftruncate(of_channel(files.first, n), place);
+        libc::ftruncate(of_voice(files.first, n), place);
         n += 1;
     }
 }
@@ -139,12 +141,13 @@ fn write(
     ram: &mut [u8],
     queues: &mut [i16],
     stems: &mut [i16],
+    others: &mut [i16],
     out: &mut [u8],
 ) {
     let files = files_of(sound);
     let place = libc::lseek(files.first, 0, libc::SEEK_CUR);
     if put_heads(files, -1, known) {
-        let run = play(sound, input, ram, queues, stems, &mut *out);
+        let run = play(sound, input, ram, queues, stems, others, &mut *out);
         ended(files, run, place, known, out);
         return;
     }
@@ -159,6 +162,7 @@ pub(crate) fn make(
     ram: &mut [u8],
     queues: &mut [i16],
     stems: &mut [i16],
+    others: &mut [i16],
     out: &mut [u8],
 ) {
     let begin = libc::lseek(libc::STDIN_FILENO, 0, libc::SEEK_CUR);
@@ -169,14 +173,15 @@ pub(crate) fn make(
             &mut *ram,
             &mut *queues,
             &mut *stems,
+            &mut *others,
             &mut *out,
         );
         if !run.whole {
             return;
         }
         libc::lseek(libc::STDIN_FILENO, begin, libc::SEEK_SET);
-        write(sound, run.frames, input, ram, queues, stems, out);
+        write(sound, run.frames, input, ram, queues, stems, others, out);
         return;
     }
-    write(sound, wav::UNKNOWN, input, ram, queues, stems, out);
+    write(sound, wav::UNKNOWN, input, ram, queues, stems, others, out);
 }

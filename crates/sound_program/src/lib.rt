@@ -6,15 +6,16 @@ mod measuring;
 mod playing;
 mod sounds;
 
+use cores::CHIP_QUEUES;
+use cores::CHIP_STEMS;
 use levels::SideLevel;
 use s3w2::Chip;
-use sizes::QUEUE_BUFFER;
 use sizes::STEMS;
 
 // The frames that are played at a time: no line has more.
 const FRAMES: usize = 1000;
 
-// What becomes of the frames: they are counted, written as one WAV file of the mix or of all stems, or as one for each channel, or
+// What becomes of the frames: they are counted, written as one WAV file of the mix or of all stems, or as one for each voice, or
 // measured.
 pub(crate) enum Sound {
     Count,
@@ -45,25 +46,32 @@ pub(crate) struct Run {
     pub whole: bool,
 }
 
-// The buffers of frames: stems, both sides, and bytes to be written.
-fn with_ram(sound: Sound, ram: &mut [u8], queues: &mut [i16], stems: &mut [i16]) {
+// The buffers of frames: the stems of both cores, and bytes to be written.
+fn with_ram(
+    sound: Sound,
+    ram: &mut [u8],
+    queues: &mut [i16],
+    stems: &mut [i16],
+    others: &mut [i16],
+) {
     let mut input = io::large_buffer();
-    let mut out = [0u8; 2 * STEMS * FRAMES];
-    files::make(sound, &mut input, ram, queues, stems, &mut out);
+    let mut out = [0u8; 2 * CHIP_STEMS * FRAMES];
+    files::make(sound, &mut input, ram, queues, stems, others, &mut out);
 }
 
-fn with_stems(sound: Sound, queues: &mut [i16], stems: &mut [i16]) {
+fn with_stems(sound: Sound, queues: &mut [i16], stems: &mut [i16], others: &mut [i16]) {
     let mut ram = io::large_buffer();
-    with_ram(sound, &mut ram, queues, stems);
+    with_ram(sound, &mut ram, queues, stems, others);
 }
 
 fn with_queues(sound: Sound, queues: &mut [i16]) {
     let mut stems = [0i16; STEMS * FRAMES];
-    with_stems(sound, queues, &mut stems);
+    let mut others = [0i16; STEMS * FRAMES];
+    with_stems(sound, queues, &mut stems, &mut others);
 }
 
 fn start(sound: Sound) {
-    let mut queues = [0i16; QUEUE_BUFFER];
+    let mut queues = [0i16; CHIP_QUEUES];
     with_queues(sound, &mut queues);
 }
 
@@ -72,12 +80,12 @@ pub fn write_mix() {
     start(Sound::Mix);
 }
 
-// The same with its stems, as one WAV file of 16 channels.
+// The same with its stems, as one WAV file of 32 channels: a left and a right one for each voice, core 0's eight voices and then core 1's.
 pub fn write_stems() {
     start(Sound::Stems);
 }
 
-// The same, as a WAV file for each channel, that of channel n to descriptor 3 + n.
+// The same, as a WAV file for each of the sixteen voices, that of voice n to descriptor 3 + n.
 pub fn write_channels() {
     start(Sound::Split);
 }

@@ -1,5 +1,5 @@
 // The levels of each tenth of a second, a line each: L, the frames, of the left side the peak, the sum of squares and the overs, the same
-// of the right one, and the peak of each of the eight voices.
+// of the right one, and the peak of each of core 0's eight voices.
 use crate::FRAMES;
 use crate::Level;
 use crate::Run;
@@ -20,8 +20,14 @@ impl Level {
     }
 
     // With more frames, by way of two sides of zeros.
-    fn with_sides(self, stems: &[i16], left: &mut [i32], right: &mut [i32]) -> Level {
-        sides::add_i32(stems, &mut *left, &mut *right, 0);
+    fn with_sides(
+        self,
+        stems: &[i16],
+        others: &[i16],
+        left: &mut [i32],
+        right: &mut [i32],
+    ) -> Level {
+        sides::add_i32(stems, others, &mut *left, &mut *right, 0);
         let first = self.left;
         let second = self.right;
         let voices = self.voices;
@@ -34,15 +40,15 @@ impl Level {
     }
 
     // With more frames, at most as many as fit the tenth.
-    fn with_stems(self, stems: &[i16]) -> Level {
+    fn with_stems(self, stems: &[i16], others: &[i16]) -> Level {
         let mut left = [0i32; FRAMES];
         let mut right = [0i32; FRAMES];
         let n = num::least(stems.len() / STEMS, FRAMES);
-        self.with_sides(stems, &mut left[..n], &mut right[..n])
+        self.with_sides(stems, others, &mut left[..n], &mut right[..n])
     }
 }
 
-// The largest sample of each voice.
+// The largest sample of each voice of core 0.
 fn voice_peaks(before: [u32; 8], stems: &[i16]) -> [u32; 8] {
     let mut voices = before;
     let mut channel: usize = 0;
@@ -107,9 +113,9 @@ impl Run {
 }
 
 // A run after more frames, of which no more than fit the tenth are taken into it.
-fn with_part(run: Run, stems: &[i16], out: &mut [u8]) -> Run {
+fn with_part(run: Run, stems: &[i16], others: &[i16], out: &mut [u8]) -> Run {
     let level = run.level;
-    let more = level.with_stems(stems);
+    let more = level.with_stems(stems, others);
     if more.frames < TENTH {
         return run.with_level(more);
     }
@@ -121,14 +127,15 @@ fn with_part(run: Run, stems: &[i16], out: &mut [u8]) -> Run {
 }
 
 // A run after the frames of its last lines: those that fit the tenth, and those behind them.
-pub(crate) fn measured(run: Run, stems: &[i16], out: &mut [u8]) -> Run {
+pub(crate) fn measured(run: Run, stems: &[i16], others: &[i16], out: &mut [u8]) -> Run {
     let level = run.level;
     let room = STEMS * (TENTH - num::least(level.frames, TENTH));
     let end = num::least(room, stems.len());
-    let next = with_part(run, &stems[..end], &mut *out);
+    let other = num::least(room, others.len());
+    let next = with_part(run, &stems[..end], &others[..other], &mut *out);
     if end < stems.len() {
         if next.going {
-            return with_part(next, &stems[end..], out);
+            return with_part(next, &stems[end..], &others[other..], out);
         }
     }
     next

@@ -123,10 +123,11 @@ fn lines_of(
     ram: &mut [u8],
     queues: &mut [i16],
     stems: &mut [i16],
+    others: &mut [i16],
 ) -> Sounded {
     let chip = run.chip;
     let read = num::part(input, 0, run.filled);
-    log_sound::play(chip, read, run.from, ram, queues, stems)
+    log_sound::play(chip, read, run.from, ram, queues, stems, others)
 }
 
 // A run after them.
@@ -137,9 +138,10 @@ fn heard(
     ram: &mut [u8],
     queues: &mut [i16],
     stems: &mut [i16],
+    others: &mut [i16],
     out: &mut [u8],
 ) -> Run {
-    let lines = lines_of(run, input, ram, queues, &mut *stems);
+    let lines = lines_of(run, input, ram, queues, &mut *stems, &mut *others);
     let after = lines.chip;
     let answer = lines.answer;
     let passed = run.passed(lines.from, lines.count, lines.frames);
@@ -149,8 +151,10 @@ fn heard(
         return next.stopped(false);
     };
     told(run.frames, next.frames);
-    let end = num::least(STEMS * num::least(lines.frames, FRAMES), stems.len());
-    sounded(sound, next, &stems[..end], out)
+    let end = STEMS * num::least(lines.frames, FRAMES);
+    let a = num::least(end, stems.len());
+    let b = num::least(end, others.len());
+    sounded(sound, next, &stems[..a], &others[..b], out)
 }
 
 // The same where they are only counted.
@@ -167,12 +171,13 @@ fn taken(
     ram: &mut [u8],
     queues: &mut [i16],
     stems: &mut [i16],
+    others: &mut [i16],
     out: &mut [u8],
 ) -> Run {
     if let Sound::Count = sound {
         return counted(run, input);
     }
-    heard(sound, run, input, ram, queues, stems, out)
+    heard(sound, run, input, ram, queues, stems, others, out)
 }
 
 // The next lines; where none can be taken, more input.
@@ -183,9 +188,10 @@ fn turn(
     ram: &mut [u8],
     queues: &mut [i16],
     stems: &mut [i16],
+    others: &mut [i16],
     out: &mut [u8],
 ) -> Run {
-    let next = taken(sound, run, &*input, ram, queues, stems, out);
+    let next = taken(sound, run, &*input, ram, queues, stems, others, out);
     if next.from == run.from {
         if next.going {
             return unplayed(next, input);
@@ -201,6 +207,7 @@ pub(crate) fn play(
     ram: &mut [u8],
     queues: &mut [i16],
     stems: &mut [i16],
+    others: &mut [i16],
     out: &mut [u8],
 ) -> Run {
     let mut run = begun(&mut *ram);
@@ -214,6 +221,7 @@ pub(crate) fn play(
                 &mut *ram,
                 &mut *queues,
                 &mut *stems,
+                &mut *others,
                 &mut *out,
             );
             turns -= 1;

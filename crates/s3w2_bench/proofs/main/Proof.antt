@@ -10,7 +10,7 @@ slice-aggregate-run : tie.Need-slice-aggregate-run
 slice-aggregate-run c = sym (length-replicate {0} {A = ℕ} 65536 0)
 
 slice-aggregate-run-2 : tie.Need-slice-aggregate-run-2
-slice-aggregate-run-2 c = sym (length-replicate {0} {A = ℤ} 16384 (pos 0))
+slice-aggregate-run-2 c = sym (length-replicate {0} {A = ℤ} 32768 (pos 0))
 
 slice-aggregate-run-3 : tie.Need-slice-aggregate-run-3
 slice-aggregate-run-3 c = sym (length-replicate {0} {A = ℕ} 2097152 0)

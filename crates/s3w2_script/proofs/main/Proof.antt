@@ -10,7 +10,7 @@ slice-aggregate-with-texts : tie.Need-slice-aggregate-with-texts
 slice-aggregate-with-texts c = sym (length-replicate {0} {A = ℕ} 1048576 85)
 
 slice-aggregate-with-texts-2 : tie.Need-slice-aggregate-with-texts-2
-slice-aggregate-with-texts-2 c = sym (length-replicate {0} {A = ℤ} 16400 (pos 0))
+slice-aggregate-with-texts-2 c = sym (length-replicate {0} {A = ℤ} 32784 (pos 0))
 
 with-texts-requires : tie.Need-with-texts-requires
 with-texts-requires c κs = search needs

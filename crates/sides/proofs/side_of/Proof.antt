@@ -54,7 +54,7 @@ returns : tie.Need-returns Inv-loop μ-loop
 returns c =
     let l = c .before .loop in
     let e : l .ch ≡ 8 = omega (arith, c .loop-test .left, l .inv .0) in
-    l .inv .1 ∙ ap (λ (n : ℕ). sideSum n (c .before .before .args .stems .now) (c .before .before .args .from)) e
+    (l .inv .1 ∙ ap (λ (n : ℕ). sideSum n (c .before .before .args .stems .now) (c .before .before .args .from)) e, omega (arith, l .inv .2, e))
 
 pub side-of-spec : {M : Type 1} → statement M
 side-of-spec =

@@ -10,7 +10,7 @@ abbrev Inv-loop : tie.InvT-loop
 Inv-loop program player text₀ ram queues k₀ text k = length text ≡ length text₀
 
 abbrev μ-loop : tie.MeasureT-loop
-μ-loop program player text₀ ram queues k₀ text k = 9 - k
+μ-loop program player text₀ ram queues k₀ text k = 17 - k
 
 loop-holds : tie.Need-loop-holds Inv-loop μ-loop
 loop-holds c = refl

@@ -18,7 +18,10 @@ answers-requires c κs = search needs
 
 returns : tie.Need-returns
 unfolding clockMixedCalled clockMixedLeft clockMixedRight mixedAnswered mixedLeft mixedRight
-returns c = (c .answers .ensures ∙ away (c .before .before .before .refusal-of-sound .result) _ (c .before .before .before .refusal-of-sound .ensures) _ _ (sym (c .before .before .is-done .ensures) ∙ not-true _ (c .before .if1 .taken)), (refl, (stays (c .before .before .before .refusal-of-sound .result) _ (c .before .before .before .refusal-of-sound .ensures) _ _ (sym (c .before .before .is-done .ensures) ∙ not-true _ (c .before .if1 .taken)), stays (c .before .before .before .refusal-of-sound .result) _ (c .before .before .before .refusal-of-sound .ensures) _ _ (sym (c .before .before .is-done .ensures) ∙ not-true _ (c .before .if1 .taken)))))
+returns c =
+    let r = c .before .before .before .refusal-of-sound in
+    let no = sym (c .before .before .is-done .ensures) ∙ not-true _ (c .before .if1 .taken) in
+    (c .answers .ensures ∙ away (r .result) _ (r .ensures) _ _ no, (refl, (stays (r .result) _ (r .ensures) _ _ no, stays (r .result) _ (r .ensures) _ _ no)))
 
 least-requires : tie.Need-least-requires
 least-requires c κs = search needs
@@ -45,13 +48,14 @@ returns-2 : tie.Need-returns-2
 unfolding clockMixedCalled clockMixedLeft clockMixedRight
 returns-2 c =
     let a = c .before .before .before .before .before .before .before .before .before .before .before .before .before .before .before .before .before .before .args in
+    let g = c .before .before .before .before .before .before .before .before .before .before .before .before .before .before .before .before .refusal-of-sound in
+    let done = sym (c .before .before .before .before .before .before .before .before .before .before .before .before .before .before .before .is-done .ensures) ∙ not-false _ (c .before .before .before .before .before .before .before .before .before .before .before .before .before .before .if1 .left) in
     let n = c .before .before .before .before .before .before .before .before .before .before .before .before .before .least in
     let l = c .before .before .before .before .before .before .before .before .before .before .before .clear in
     let r = c .before .before .before .before .before .before .before .before .clear2 in
-    let M = mixed-cleared (a .self) (a .ram .now) (a .queues .now) (a .left .now) (a .right .now) (n .result) (l .last .0) (r .last .0) (n .ensures) (l .ensures) (r .ensures) in (
-      c .before .before .before .clock-mixed-into .ensures .0 ∙ M .called,
-      (c .before .before .before .clock-mixed-into .ensures .1 .0, (c .before .before .before .clock-mixed-into .ensures .1 .1 .0 ∙ M .onLeft ∙ goes-on (c .before .before .before .before .before .before .before .before .before .before .before .before .before .before .before .before .refusal-of-sound .result) _ (c .before .before .before .before .before .before .before .before .before .before .before .before .before .before .before .before .refusal-of-sound .ensures) _ _ (sym (c .before .before .before .before .before .before .before .before .before .before .before .before .before .before .before .is-done .ensures) ∙ not-false _ (c .before .before .before .before .before .before .before .before .before .before .before .before .before .before .if1 .left)), c .before .before .before .clock-mixed-into .ensures .1 .1 .1 ∙ M .onRight ∙ goes-on (c .before .before .before .before .before .before .before .before .before .before .before .before .before .before .before .before .refusal-of-sound .result) _ (c .before .before .before .before .before .before .before .before .before .before .before .before .before .before .before .before .refusal-of-sound .ensures) _ _ (sym (c .before .before .before .before .before .before .before .before .before .before .before .before .before .before .before .is-done .ensures) ∙ not-false _ (c .before .before .before .before .before .before .before .before .before .before .before .before .before .before .if1 .left)))),
-    )
+    let f = c .before .before .before .clock-mixed-into in
+    let M = mixed-cleared (a .self) (a .ram .now) (a .queues .now) (a .left .now) (a .right .now) (n .result) (l .last .0) (r .last .0) (n .ensures) (l .ensures) (r .ensures) in
+    (f .ensures .0 ∙ M .called, (f .ensures .1 .0, (f .ensures .1 .1 .0 ∙ M .onLeft ∙ goes-on (g .result) _ (g .ensures) _ _ done, f .ensures .1 .1 .1 ∙ M .onRight ∙ goes-on (g .result) _ (g .ensures) _ _ done)))
 
 pub clock-mixed-spec : {M : Type 1} → statement M
 clock-mixed-spec =

@@ -1,10 +1,11 @@
 use borrow.Author.Needs.{needs}
-use mathlib.Core.Path.{sym, ap, _∙_}
+use mathlib.Core.Path.{sym, _∙_}
 use borrow.Author.Tests.{not-true, not-false}
-use mathlib.Core.Bool.{Bool}
+use mathlib.Core.Bool.{Bool, false}
 use Rattle.s3w2.specs.declared.Answer.the-variants.{Flag}
 use Rattle.s3w2.specs.Channels.{interpolatesAnswer}
-use Rattle.s3w2.proofs.Refused.{tells-away, goes-told}
+use Rattle.s3w2.proofs.Refused.{tells-away}
+use Rattle.s3w2.proofs.Cases.{tells-none, tells}
 use Rattle.s3w2.proofs.Chip.interpolates.Statement.{statement}
 use Rattle.s3w2.proofs.Chip.interpolates.Tie as tie
 
@@ -16,15 +17,42 @@ is-done-requires c κs = search needs
 
 returns : tie.Need-returns
 unfolding interpolatesAnswer
-returns c = tells-away (c .before .before .refusal .result) _ (c .before .before .refusal .ensures) _ (sym (c .before .is-done .ensures) ∙ not-true _ (c .if1 .taken))
+returns c =
+    let b = c in
+    tells-away (b .before .before .refusal .result) _ (b .before .before .refusal .ensures) _ (sym (b .before .is-done .ensures) ∙ not-true _ (b .if1 .taken))
+
+returns-2 : tie.Need-returns-2
+unfolding interpolatesAnswer
+returns-2 c =
+    let b = c .before in
+    let a = c .before .before .before .before .args in
+    tells-none (b .before .before .refusal .result) _ (b .before .before .refusal .ensures) (sym (b .before .is-done .ensures) ∙ not-false _ (b .if1 .left)) (a .core) (λ (x : Bool). Flag x) _ false (c .if2 .taken)
+
+mul-voices : tie.Need-mul-voices
+mul-voices c = search needs
+
+element-copy-out-voices : tie.Need-element-copy-out-voices
+element-copy-out-voices c = search needs
 
 interpolates-requires : tie.Need-interpolates-requires
 interpolates-requires c κs = search needs
 
-returns-2 : tie.Need-returns-2
+returns-3 : tie.Need-returns-3
 unfolding interpolatesAnswer
-returns-2 c = goes-told (c .before .before .before .before .refusal .result) _ (c .before .before .before .before .refusal .ensures) _ _ (sym (c .before .before .before .is-done .ensures) ∙ not-false _ (c .before .before .if1 .left)) (ap (λ (x : Bool). Flag x) (c .interpolates .ensures))
+returns-3 c =
+    let b = c .before .before .before in
+    let a = c .before .before .before .before .before .before .args in
+    tells (b .before .before .refusal .result) _ (b .before .before .refusal .ensures) (sym (b .before .is-done .ensures) ∙ not-false _ (b .if1 .left)) (a .core) (λ (x : Bool). Flag x) _ false _ (c .before .before .if2 .left) (c .interpolates .ensures)
 
 pub interpolates-spec : {M : Type 1} → statement M
 interpolates-spec =
-    tie.close (tie.spec refusal-requires is-done-requires returns interpolates-requires returns-2)
+    tie.close
+    (tie.spec
+    refusal-requires
+    is-done-requires
+    returns
+    returns-2
+    mul-voices
+    element-copy-out-voices
+    interpolates-requires
+    returns-3)

@@ -1,9 +1,14 @@
 use borrow.Author.Needs.{needs}
-use mathlib.Core.Path.{sym, _∙_}
+use mathlib.Core.Path.{sym, ap, _∙_}
+use native.Mathlib.Omega.{arith}
 use borrow.Author.Tests.{not-true, not-false}
+use Prim.Native.Nat.{ℕ}
+use Rattle.sizes.specs.Sizes.{numChannels}
+use Rattle.cores.specs.Sizes.{numCores}
+use Rattle.s3w2.specs.declared.Answer.the-variants.{Byte}
 use Rattle.s3w2.specs.Channels.{readChannelWavetableAnswer}
 use Rattle.s3w2.proofs.Refused.{tells-away, goes-told}
-use Rattle.s3w2.proofs.Cases.{wave-reads-none, wave-reads}
+use Rattle.s3w2.proofs.Cases.{none-of, one-of, one-core}
 use Rattle.s3w2.proofs.Chip.read_channel_wavetable.Statement.{statement}
 use Rattle.s3w2.proofs.Chip.read_channel_wavetable.Tie as tie
 
@@ -15,13 +20,29 @@ is-done-requires c κs = search needs
 
 returns : tie.Need-returns
 unfolding readChannelWavetableAnswer
-returns c = tells-away (c .before .before .refusal .result) _ (c .before .before .refusal .ensures) _ (sym (c .before .is-done .ensures) ∙ not-true _ (c .if1 .taken))
+returns c =
+    let b = c in
+    tells-away (b .before .before .refusal .result) _ (b .before .before .refusal .ensures) _ (sym (b .before .is-done .ensures) ∙ not-true _ (b .if1 .taken))
 
 returns-2 : tie.Need-returns-2
 unfolding readChannelWavetableAnswer
 returns-2 c =
+    let b = c .before in
     let a = c .before .before .before .before .args in
-    goes-told (c .before .before .before .refusal .result) _ (c .before .before .before .refusal .ensures) _ _ (sym (c .before .before .is-done .ensures) ∙ not-false _ (c .before .if1 .left)) (wave-reads-none (a .self) (a .ch) (a .offset) (c .if2 .taken))
+    goes-told (b .before .before .refusal .result) _ (b .before .before .refusal .ensures) _ _ (sym (b .before .is-done .ensures) ∙ not-false _ (b .if1 .left)) (ap (λ (x : ℕ). Byte x) (none-of (a .ch) numChannels _ 0 (c .if2 .taken)))
+
+returns-3 : tie.Need-returns-3
+unfolding readChannelWavetableAnswer
+returns-3 c =
+    let b = c .before .before in
+    let a = c .before .before .before .before .before .args in
+    goes-told (b .before .before .refusal .result) _ (b .before .before .refusal .ensures) _ _ (sym (b .before .is-done .ensures) ∙ not-false _ (b .if1 .left)) (ap (λ (x : ℕ). Byte x) (none-of (a .core) numCores _ 0 (c .if3 .taken) ∙ one-of (a .ch) numChannels _ 0 (omega (arith, c .before .if2 .left))))
+
+mul-voices : tie.Need-mul-voices
+mul-voices c = search needs
+
+element-copy-out-voices : tie.Need-element-copy-out-voices
+element-copy-out-voices c = search needs
 
 mul-read-wavetable : tie.Need-mul-read-wavetable
 mul-read-wavetable c = search needs
@@ -32,11 +53,12 @@ add-read-wavetable c = search needs
 read-wavetable-requires : tie.Need-read-wavetable-requires
 read-wavetable-requires c κs = search needs
 
-returns-3 : tie.Need-returns-3
+returns-4 : tie.Need-returns-4
 unfolding readChannelWavetableAnswer
-returns-3 c =
-    let a = c .before .before .before .before .before .before .args in
-    goes-told (c .before .before .before .before .before .refusal .result) _ (c .before .before .before .before .before .refusal .ensures) _ _ (sym (c .before .before .before .before .is-done .ensures) ∙ not-false _ (c .before .before .before .if1 .left)) (wave-reads (a .self) (a .ch) (a .offset) (c .read-wavetable .result) (c .before .before .if2 .left) (c .read-wavetable .ensures))
+returns-4 c =
+    let b = c .before .before .before .before in
+    let a = c .before .before .before .before .before .before .before .args in
+    goes-told (b .before .before .refusal .result) _ (b .before .before .refusal .ensures) _ _ (sym (b .before .is-done .ensures) ∙ not-false _ (b .if1 .left)) (ap (λ (x : ℕ). Byte x) (one-core (a .core) _ 0 _ (c .before .before .if3 .left) (c .read-wavetable .ensures) ∙ one-of (a .ch) numChannels _ 0 (omega (arith, c .before .before .before .if2 .left))))
 
 pub read-channel-wavetable-spec : {M : Type 1} → statement M
 read-channel-wavetable-spec =
@@ -46,7 +68,10 @@ read-channel-wavetable-spec =
     is-done-requires
     returns
     returns-2
+    returns-3
+    mul-voices
+    element-copy-out-voices
     mul-read-wavetable
     add-read-wavetable
     read-wavetable-requires
-    returns-3)
+    returns-4)

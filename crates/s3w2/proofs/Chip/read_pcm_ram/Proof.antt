@@ -16,14 +16,18 @@ is-done-requires c κs = search needs
 
 returns : tie.Need-returns
 unfolding readPcmRamAnswer
-returns c = tells-away (c .before .before .refusal-with-ram .result) _ (c .before .before .refusal-with-ram .ensures) _ (sym (c .before .is-done .ensures) ∙ not-true _ (c .if1 .taken))
+returns c =
+    let b = c in
+    tells-away (b .before .before .refusal-with-ram .result) _ (b .before .before .refusal-with-ram .ensures) _ (sym (b .before .is-done .ensures) ∙ not-true _ (b .if1 .taken))
 
 byte-at-requires : tie.Need-byte-at-requires
 byte-at-requires c κs = search needs
 
 returns-2 : tie.Need-returns-2
 unfolding readPcmRamAnswer
-returns-2 c = goes-told (c .before .before .before .refusal-with-ram .result) _ (c .before .before .before .refusal-with-ram .ensures) _ _ (sym (c .before .before .is-done .ensures) ∙ not-false _ (c .before .if1 .left)) (ap (λ (x : ℕ). Byte x) (c .byte-at .ensures))
+returns-2 c =
+    let b = c .before in
+    goes-told (b .before .before .refusal-with-ram .result) _ (b .before .before .refusal-with-ram .ensures) _ _ (sym (b .before .is-done .ensures) ∙ not-false _ (b .if1 .left)) (ap (λ (x : ℕ). Byte x) (c .byte-at .ensures))
 
 pub read-pcm-ram-spec : {M : Type 1} → statement M
 read-pcm-ram-spec =

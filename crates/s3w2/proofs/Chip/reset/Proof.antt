@@ -1,12 +1,12 @@
 use borrow.Author.Needs.{needs}
 use mathlib.Core.Path.{sym, ap, _∙_}
 use borrow.Author.Tests.{not-true, not-false}
-use Rattle.voices.specs.declared.Core.{Core}
+use Rattle.s3w2.specs.declared.Chip.{Chip}
 use Rattle.s3w2.specs.declared.Answer.the-variants.{Done}
 use Rattle.s3w2.specs.Answers.{answered}
-use Rattle.s3w2.specs.Chips.{withCore}
 use Rattle.s3w2.specs.Fresh.{resetCalled, resetRam}
 use Rattle.s3w2.proofs.Refused.{away, stays, goes-on, goes-called}
+use Rattle.s3w2.proofs.Cases.{cores-are}
 use Rattle.s3w2.proofs.Chip.reset.Statement.{statement}
 use Rattle.s3w2.proofs.Chip.reset.Tie as tie
 
@@ -21,7 +21,9 @@ answers-requires c κs = search needs
 
 returns : tie.Need-returns
 unfolding resetCalled resetRam
-returns c = (c .answers .ensures ∙ away (c .before .before .before .refusal-with-ram .result) _ (c .before .before .before .refusal-with-ram .ensures) _ _ (sym (c .before .before .is-done .ensures) ∙ not-true _ (c .before .if1 .taken)), stays (c .before .before .before .refusal-with-ram .result) _ (c .before .before .before .refusal-with-ram .ensures) _ _ (sym (c .before .before .is-done .ensures) ∙ not-true _ (c .before .if1 .taken)))
+returns c =
+    let b = c .before in
+    (c .answers .ensures ∙ away (b .before .before .refusal-with-ram .result) _ (b .before .before .refusal-with-ram .ensures) _ _ (sym (b .before .is-done .ensures) ∙ not-true _ (b .if1 .taken)), stays (b .before .before .refusal-with-ram .result) _ (b .before .before .refusal-with-ram .ensures) _ _ (sym (b .before .is-done .ensures) ∙ not-true _ (b .if1 .taken)))
 
 zero-requires : tie.Need-zero-requires
 zero-requires c κs = search needs
@@ -29,8 +31,14 @@ zero-requires c κs = search needs
 default-requires : tie.Need-default-requires
 default-requires c κs = search needs
 
-with-core-requires : tie.Need-with-core-requires
-with-core-requires c κs = search needs
+default-requires-2 : tie.Need-default-requires-2
+default-requires-2 c κs = search needs
+
+with-cores-requires : tie.Need-with-cores-requires
+with-cores-requires c κs = search needs
+
+answers-requires-2 : tie.Need-answers-requires-2
+answers-requires-2 c κs = search needs
 
 same-length : tie.Need-same-length
 same-length c = search needs
@@ -38,9 +46,11 @@ same-length c = search needs
 returns-2 : tie.Need-returns-2
 unfolding resetCalled resetRam
 returns-2 c =
-    let a = c .before .before .before .before .before .before .before .before .before .before .args in (
-      goes-called (c .before .before .before .before .before .before .before .before .refusal-with-ram .result) _ (c .before .before .before .before .before .before .before .before .refusal-with-ram .ensures) _ _ _ (sym (c .before .before .before .before .before .before .before .is-done .ensures) ∙ not-false _ (c .before .before .before .before .before .before .if1 .left)) (c .with-core .ensures ∙ ap (λ (k : Core). answered (withCore (a .self) k) Done) (c .before .default .ensures)),
-      c .before .before .before .before .zero .ensures ∙ goes-on (c .before .before .before .before .before .before .before .before .refusal-with-ram .result) _ (c .before .before .before .before .before .before .before .before .refusal-with-ram .ensures) _ _ (sym (c .before .before .before .before .before .before .before .is-done .ensures) ∙ not-false _ (c .before .before .before .before .before .before .if1 .left)),
+    let b = c .before .before .before .before .before .before .before .before in
+    let a = c .before .before .before .before .before .before .before .before .before .before .before .before .args in (
+      goes-called (b .before .before .refusal-with-ram .result) _ (b .before .before .refusal-with-ram .ensures) _ _ _ (sym (b .before .is-done .ensures) ∙ not-false _ (b .if1 .left))
+          (c .answers2 .ensures ∙ ap (λ (x : Chip). answered x Done) (c .before .with-cores .ensures ∙ cores-are (a .self) _ _ _ _ (c .before .before .before .default .ensures) (c .before .before .default2 .ensures))),
+      c .before .before .before .before .before .before .zero .ensures ∙ goes-on (b .before .before .refusal-with-ram .result) _ (b .before .before .refusal-with-ram .ensures) _ _ (sym (b .before .is-done .ensures) ∙ not-false _ (b .if1 .left)),
     )
 
 pub reset-spec : {M : Type 1} → statement M
@@ -53,6 +63,8 @@ reset-spec =
     returns
     zero-requires
     default-requires
-    with-core-requires
+    default-requires-2
+    with-cores-requires
+    answers-requires-2
     same-length
     returns-2)

@@ -1,5 +1,6 @@
 use borrow.Author.Needs.{needs}
-use mathlib.Core.Path.{sym, ap, _∙_}
+use mathlib.Core.Path.{sym, ap₂, _∙_}
+use mathlib.Core.List.{[], _∷_}
 use borrow.Author.Tests.{not-true, not-false}
 use Rattle.voices.specs.declared.Core.{Core}
 use Rattle.s3w2.specs.declared.Answer.the-variants.{Done}
@@ -20,17 +21,32 @@ answers-requires c κs = search needs
 
 returns : tie.Need-returns
 unfolding setVersionCalled
-returns c = c .answers .ensures ∙ away (c .before .before .before .refusal .result) _ (c .before .before .before .refusal .ensures) _ _ (sym (c .before .before .is-done .ensures) ∙ not-true _ (c .before .if1 .taken))
+returns c =
+    let b = c .before in
+    c .answers .ensures ∙ away (b .before .before .refusal .result) _ (b .before .before .refusal .ensures) _ _ (sym (b .before .is-done .ensures) ∙ not-true _ (b .if1 .taken))
+
+element-copy-out-first : tie.Need-element-copy-out-first
+element-copy-out-first c = search needs
+
+element-copy-out-second : tie.Need-element-copy-out-second
+element-copy-out-second c = search needs
 
 set-version-requires : tie.Need-set-version-requires
 set-version-requires c κs = search needs
+
+set-version-requires-2 : tie.Need-set-version-requires-2
+set-version-requires-2 c κs = search needs
 
 answers-requires-2 : tie.Need-answers-requires-2
 answers-requires-2 c κs = search needs
 
 returns-2 : tie.Need-returns-2
 unfolding setVersionCalled
-returns-2 c = goes-called (c .before .before .before .before .before .refusal .result) _ (c .before .before .before .before .before .refusal .ensures) _ _ _ (sym (c .before .before .before .before .is-done .ensures) ∙ not-false _ (c .before .before .before .if1 .left)) (c .answers2 .ensures ∙ ap (λ (k : Core). answered (record { version = c .before .before .before .before .before .before .args .version; core = k }) Done) (c .before .set-version .ensures))
+returns-2 c =
+    let b = c .before .before .before .before .before in
+    let a = c .before .before .before .before .before .before .before .before .args in
+    goes-called (b .before .before .refusal .result) _ (b .before .before .refusal .ensures) _ _ _ (sym (b .before .is-done .ensures) ∙ not-false _ (b .if1 .left))
+    (c .answers2 .ensures ∙ ap₂ (λ (x y : Core). answered (record { version = a .version; cores = x ∷ y ∷ [] }) Done) (c .before .before .set-version .ensures) (c .before .set-version2 .ensures))
 
 pub set-version-spec : {M : Type 1} → statement M
 set-version-spec =
@@ -40,6 +56,9 @@ set-version-spec =
     is-done-requires
     answers-requires
     returns
+    element-copy-out-first
+    element-copy-out-second
     set-version-requires
+    set-version-requires-2
     answers-requires-2
     returns-2)

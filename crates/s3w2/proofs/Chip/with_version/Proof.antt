@@ -1,6 +1,7 @@
 use borrow.Author.Needs.{needs}
-use mathlib.Core.Path.{refl, sym, ap, _∙_}
+use mathlib.Core.Path.{refl, sym, ap, ap₂, _∙_}
 use mathlib.Core.Bool.{true}
+use mathlib.Core.List.{[], _∷_}
 use borrow.Author.Tests.{not-true, not-false}
 use Rattle.voices.specs.declared.Core.{Core}
 use Rattle.s3w2.specs.declared.Answer.the-variants.{Done, RamLength}
@@ -14,6 +15,9 @@ use Rattle.s3w2.proofs.Chip.with_version.Tie as tie
 default-requires : tie.Need-default-requires
 default-requires c κs = search needs
 
+default-requires-2 : tie.Need-default-requires-2
+default-requires-2 c κs = search needs
+
 is-ram-length-requires : tie.Need-is-ram-length-requires
 is-ram-length-requires c κs = search needs
 
@@ -23,9 +27,9 @@ answers-requires c κs = search needs
 returns : tie.Need-returns
 unfolding madeCalled madeRam
 returns c =
-    let a = c .before .before .before .before .before .args in
+    let v = c .before .before .before .before .before .before .args .version in
     let e = no-ram _ true true true (sym (c .before .before .is-ram-length .ensures) ∙ not-true _ (c .before .if1 .taken)) in (
-      c .answers .ensures ∙ ap (λ (k : Core). answered (record { version = a .version; core = k }) RamLength) (c .before .before .before .default .ensures) ∙ ap (answered (freshChip (a .version))) e,
+      c .answers .ensures ∙ ap₂ (λ (x y : Core). answered (record { version = v; cores = x ∷ y ∷ [] }) RamLength) (c .before .before .before .before .default .ensures) (c .before .before .before .default2 .ensures) ∙ ap (answered (freshChip v)) e,
       stays RamLength _ e _ _ refl,
     )
 
@@ -41,9 +45,9 @@ same-length c = search needs
 returns-2 : tie.Need-returns-2
 unfolding madeCalled madeRam
 returns-2 c =
-    let a = c .before .before .before .before .before .before .before .before .before .args in
+    let v = c .before .before .before .before .before .before .before .before .before .before .args .version in
     let e = nothing-amiss _ true true true (sym (c .before .before .before .before .before .before .is-ram-length .ensures) ∙ not-false _ (c .before .before .before .before .before .if1 .left)) refl refl refl in (
-      c .answers2 .ensures ∙ ap (λ (k : Core). answered (record { version = a .version; core = k }) Done) (c .before .before .before .before .before .before .before .default .ensures) ∙ ap (answered (freshChip (a .version))) e,
+      c .answers2 .ensures ∙ ap₂ (λ (x y : Core). answered (record { version = v; cores = x ∷ y ∷ [] }) Done) (c .before .before .before .before .before .before .before .before .default .ensures) (c .before .before .before .before .before .before .before .default2 .ensures) ∙ ap (answered (freshChip v)) e,
       c .before .before .before .zero .ensures ∙ goes-on Done _ e _ _ refl,
     )
 
@@ -52,6 +56,7 @@ with-version-spec =
     tie.close
     (tie.spec
     default-requires
+    default-requires-2
     is-ram-length-requires
     answers-requires
     returns

@@ -1,13 +1,16 @@
 use borrow.Author.Needs.{needs}
 use mathlib.Core.Path.{sym, ap, _∙_}
+use native.Mathlib.Omega.{arith}
 use borrow.Author.Tests.{not-true, not-false}
-use Rattle.voices.specs.declared.Core.{Core}
+use Rattle.sizes.specs.Sizes.{numChannels}
+use Rattle.cores.specs.Sizes.{numCores}
+use Rattle.s3w2.specs.declared.Chip.{Chip}
 use Rattle.s3w2.specs.declared.Answer.the-variants.{Done}
 use Rattle.s3w2.specs.Answers.{answered}
-use Rattle.s3w2.specs.Chips.{withCore}
+use Rattle.s3w2.specs.Chips.{withCoreAt}
 use Rattle.s3w2.specs.Channels.{writeChannelWavetableCalled}
 use Rattle.s3w2.proofs.Refused.{away, goes-called}
-use Rattle.s3w2.proofs.Cases.{wave-none, wave-some}
+use Rattle.s3w2.proofs.Cases.{none-of, one-of, one-core}
 use Rattle.s3w2.proofs.Chip.write_channel_wavetable.Statement.{statement}
 use Rattle.s3w2.proofs.Chip.write_channel_wavetable.Tie as tie
 
@@ -22,7 +25,9 @@ answers-requires c κs = search needs
 
 returns : tie.Need-returns
 unfolding writeChannelWavetableCalled
-returns c = c .answers .ensures ∙ away (c .before .before .before .refusal .result) _ (c .before .before .before .refusal .ensures) _ _ (sym (c .before .before .is-done .ensures) ∙ not-true _ (c .before .if1 .taken))
+returns c =
+    let b = c .before in
+    c .answers .ensures ∙ away (b .before .before .refusal .result) _ (b .before .before .refusal .ensures) _ _ (sym (b .before .is-done .ensures) ∙ not-true _ (b .if1 .taken))
 
 answers-requires-2 : tie.Need-answers-requires-2
 answers-requires-2 c κs = search needs
@@ -30,8 +35,27 @@ answers-requires-2 c κs = search needs
 returns-2 : tie.Need-returns-2
 unfolding writeChannelWavetableCalled
 returns-2 c =
+    let b = c .before .before in
     let a = c .before .before .before .before .before .args in
-    goes-called (c .before .before .before .before .refusal .result) _ (c .before .before .before .before .refusal .ensures) _ _ _ (sym (c .before .before .before .is-done .ensures) ∙ not-false _ (c .before .before .if1 .left)) (c .answers2 .ensures ∙ wave-none (a .self) (a .ch) (a .offset) (a .value) (c .before .if2 .taken))
+    goes-called (b .before .before .refusal .result) _ (b .before .before .refusal .ensures) _ _ _ (sym (b .before .is-done .ensures) ∙ not-false _ (b .if1 .left))
+    (c .answers2 .ensures ∙ ap (λ (x : Chip). answered x Done) (none-of (a .ch) numChannels _ (a .t1) (c .before .if2 .taken)))
+
+answers-requires-3 : tie.Need-answers-requires-3
+answers-requires-3 c κs = search needs
+
+returns-3 : tie.Need-returns-3
+unfolding writeChannelWavetableCalled
+returns-3 c =
+    let b = c .before .before .before in
+    let a = c .before .before .before .before .before .before .args in
+    goes-called (b .before .before .refusal .result) _ (b .before .before .refusal .ensures) _ _ _ (sym (b .before .is-done .ensures) ∙ not-false _ (b .if1 .left))
+    (c .answers3 .ensures ∙ ap (λ (x : Chip). answered x Done) (none-of (a .core) numCores _ (a .t1) (c .before .if3 .taken) ∙ one-of (a .ch) numChannels _ (a .t1) (omega (arith, c .before .before .if2 .left))))
+
+mul-voices : tie.Need-mul-voices
+mul-voices c = search needs
+
+element-copy-out-voices : tie.Need-element-copy-out-voices
+element-copy-out-voices c = search needs
 
 mul-at : tie.Need-mul-at
 mul-at c = search needs
@@ -45,11 +69,13 @@ write-wavetable-requires c κs = search needs
 with-core-requires : tie.Need-with-core-requires
 with-core-requires c κs = search needs
 
-returns-3 : tie.Need-returns-3
+returns-4 : tie.Need-returns-4
 unfolding writeChannelWavetableCalled
-returns-3 c =
-    let a = c .before .before .before .before .before .before .before .args in
-    goes-called (c .before .before .before .before .before .before .refusal .result) _ (c .before .before .before .before .before .before .refusal .ensures) _ _ _ (sym (c .before .before .before .before .before .is-done .ensures) ∙ not-false _ (c .before .before .before .before .if1 .left)) (c .with-core .ensures ∙ ap (λ (k : Core). answered (withCore (a .self) k) Done) (c .before .write-wavetable .ensures) ∙ wave-some (a .self) (a .ch) (a .offset) (a .value) (c .before .before .before .if2 .left))
+returns-4 c =
+    let b = c .before .before .before .before .before in
+    let a = c .before .before .before .before .before .before .before .before .args in
+    goes-called (b .before .before .refusal .result) _ (b .before .before .refusal .ensures) _ _ _ (sym (b .before .is-done .ensures) ∙ not-false _ (b .if1 .left))
+    (c .with-core .ensures ∙ ap (λ (x : Chip). answered x Done) (one-core (a .core) _ (a .t1) _ (c .before .before .before .if3 .left) (ap (withCoreAt (a .t1) (a .core)) (c .before .write-wavetable .ensures)) ∙ one-of (a .ch) numChannels _ (a .t1) (omega (arith, c .before .before .before .before .if2 .left))))
 
 pub write-channel-wavetable-spec : {M : Type 1} → statement M
 write-channel-wavetable-spec =
@@ -61,8 +87,12 @@ write-channel-wavetable-spec =
     returns
     answers-requires-2
     returns-2
+    answers-requires-3
+    returns-3
+    mul-voices
+    element-copy-out-voices
     mul-at
     add-at
     write-wavetable-requires
     with-core-requires
-    returns-3)
+    returns-4)

@@ -1,15 +1,13 @@
 use borrow.Author.Needs.{needs}
 use mathlib.Core.Path.{sym, ap, _∙_}
 use borrow.Author.Tests.{not-true, not-false}
-use lib.ListN.{length}
 use lib.Seq.{set-out}
-use Rattle.voices.specs.declared.Core.{Core}
+use Rattle.s3w2.specs.declared.Chip.{Chip}
 use Rattle.s3w2.specs.declared.Answer.the-variants.{Done}
 use Rattle.s3w2.specs.Answers.{answered}
-use Rattle.s3w2.specs.Chips.{withCore}
 use Rattle.s3w2.specs.Ram.{writePcmRamCalled, writePcmRamRam}
 use Rattle.s3w2.proofs.Refused.{away, stays, goes-on, goes-called}
-use Rattle.s3w2.proofs.Cases.{ram-none, ram-some}
+use Rattle.s3w2.proofs.Cases.{cores-are, none-of, one-of}
 use Rattle.s3w2.proofs.Chip.write_pcm_ram.Statement.{statement}
 use Rattle.s3w2.proofs.Chip.write_pcm_ram.Tie as tie
 
@@ -24,7 +22,9 @@ answers-requires c κs = search needs
 
 returns : tie.Need-returns
 unfolding writePcmRamCalled writePcmRamRam
-returns c = (c .answers .ensures ∙ away (c .before .before .before .refusal-with-ram .result) _ (c .before .before .before .refusal-with-ram .ensures) _ _ (sym (c .before .before .is-done .ensures) ∙ not-true _ (c .before .if1 .taken)), stays (c .before .before .before .refusal-with-ram .result) _ (c .before .before .before .refusal-with-ram .ensures) _ _ (sym (c .before .before .is-done .ensures) ∙ not-true _ (c .before .if1 .taken)))
+returns c =
+    let b = c .before in
+    (c .answers .ensures ∙ away (b .before .before .refusal-with-ram .result) _ (b .before .before .refusal-with-ram .ensures) _ _ (sym (b .before .is-done .ensures) ∙ not-true _ (b .if1 .taken)), stays (b .before .before .refusal-with-ram .result) _ (b .before .before .refusal-with-ram .ensures) _ _ (sym (b .before .is-done .ensures) ∙ not-true _ (b .if1 .taken)))
 
 answers-requires-2 : tie.Need-answers-requires-2
 answers-requires-2 c κs = search needs
@@ -32,19 +32,32 @@ answers-requires-2 c κs = search needs
 returns-2 : tie.Need-returns-2
 unfolding writePcmRamCalled writePcmRamRam
 returns-2 c =
+    let b = c .before .before in
     let a = c .before .before .before .before .before .before .args in (
-      goes-called (c .before .before .before .before .refusal-with-ram .result) _ (c .before .before .before .before .refusal-with-ram .ensures) _ _ _ (sym (c .before .before .before .is-done .ensures) ∙ not-false _ (c .before .before .if1 .left)) (c .answers2 .ensures ∙ ram-none (a .self) (length (a .ram .now)) (a .address) (c .before .if2 .taken)),
-      sym (set-out (a .ram .now) (a .address) (a .value) (c .before .if2 .taken)) ∙ goes-on (c .before .before .before .before .refusal-with-ram .result) _ (c .before .before .before .before .refusal-with-ram .ensures) _ _ (sym (c .before .before .before .is-done .ensures) ∙ not-false _ (c .before .before .if1 .left)),
+      goes-called (b .before .before .refusal-with-ram .result) _ (b .before .before .refusal-with-ram .ensures) _ _ _ (sym (b .before .is-done .ensures) ∙ not-false _ (b .if1 .left)) (c .answers2 .ensures ∙ ap (λ (x : Chip). answered x Done) (none-of _ _ _ (a .t1) (c .before .if2 .taken))),
+      sym (set-out (a .ram .now) (a .address) (a .value) (c .before .if2 .taken)) ∙ goes-on (b .before .before .refusal-with-ram .result) _ (b .before .before .refusal-with-ram .ensures) _ _ (sym (b .before .is-done .ensures) ∙ not-false _ (b .if1 .left)),
     )
 
 slice-write-ram : tie.Need-slice-write-ram
 slice-write-ram c = search needs
 
+element-copy-out-first : tie.Need-element-copy-out-first
+element-copy-out-first c = search needs
+
+element-copy-out-second : tie.Need-element-copy-out-second
+element-copy-out-second c = search needs
+
 after-ram-write-requires : tie.Need-after-ram-write-requires
 after-ram-write-requires c κs = search needs
 
-with-core-requires : tie.Need-with-core-requires
-with-core-requires c κs = search needs
+after-ram-write-requires-2 : tie.Need-after-ram-write-requires-2
+after-ram-write-requires-2 c κs = search needs
+
+with-cores-requires : tie.Need-with-cores-requires
+with-cores-requires c κs = search needs
+
+answers-requires-3 : tie.Need-answers-requires-3
+answers-requires-3 c κs = search needs
 
 same-length : tie.Need-same-length
 same-length c = search needs
@@ -52,9 +65,11 @@ same-length c = search needs
 returns-3 : tie.Need-returns-3
 unfolding writePcmRamCalled writePcmRamRam
 returns-3 c =
-    let a = c .before .before .before .before .before .before .before .before .args in (
-      goes-called (c .before .before .before .before .before .before .refusal-with-ram .result) _ (c .before .before .before .before .before .before .refusal-with-ram .ensures) _ _ _ (sym (c .before .before .before .before .before .is-done .ensures) ∙ not-false _ (c .before .before .before .before .if1 .left)) (c .with-core .ensures ∙ ap (λ (k : Core). answered (withCore (a .self) k) Done) (c .before .after-ram-write .ensures) ∙ ram-some (a .self) (length (a .ram .now)) (a .address) (c .before .before .before .if2 .left)),
-      goes-on (c .before .before .before .before .before .before .refusal-with-ram .result) _ (c .before .before .before .before .before .before .refusal-with-ram .ensures) _ _ (sym (c .before .before .before .before .before .is-done .ensures) ∙ not-false _ (c .before .before .before .before .if1 .left)),
+    let b = c .before .before .before .before .before .before .before in
+    let a = c .before .before .before .before .before .before .before .before .before .before .before .args in (
+      goes-called (b .before .before .refusal-with-ram .result) _ (b .before .before .refusal-with-ram .ensures) _ _ _ (sym (b .before .is-done .ensures) ∙ not-false _ (b .if1 .left))
+          (c .answers3 .ensures ∙ ap (λ (x : Chip). answered x Done) (c .before .with-cores .ensures ∙ cores-are (a .t1) _ _ _ _ (c .before .before .before .after-ram-write .ensures) (c .before .before .after-ram-write2 .ensures) ∙ one-of _ _ _ (a .t1) (c .before .before .before .before .before .before .if2 .left))),
+      goes-on (b .before .before .refusal-with-ram .result) _ (b .before .before .refusal-with-ram .ensures) _ _ (sym (b .before .is-done .ensures) ∙ not-false _ (b .if1 .left)),
     )
 
 pub write-pcm-ram-spec : {M : Type 1} → statement M
@@ -68,7 +83,11 @@ write-pcm-ram-spec =
     answers-requires-2
     returns-2
     slice-write-ram
+    element-copy-out-first
+    element-copy-out-second
     after-ram-write-requires
-    with-core-requires
+    after-ram-write-requires-2
+    with-cores-requires
+    answers-requires-3
     same-length
     returns-3)

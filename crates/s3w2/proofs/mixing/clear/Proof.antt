@@ -2,7 +2,8 @@ use borrow.Author.Needs.{needs}
 use mathlib.Core.Path.{ap, _∙_}
 use native.Mathlib.Omega.{arith}
 use lib.ListN.{length}
-use Rattle.s3w2.proofs.Mixes.{prefix-length, cleared-is, cleared-length}
+use Rattle.s3w2.proofs.Loops.{prefix-length}
+use Rattle.s3w2.proofs.Mixes.{cleared-is, cleared-length}
 use Rattle.s3w2.proofs.mixing.clear.Statement.{statement}
 use Rattle.s3w2.proofs.mixing.clear.Tie as tie
 

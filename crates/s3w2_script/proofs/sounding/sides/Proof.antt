@@ -4,17 +4,11 @@ use borrow.Author.Needs.{needs}
 use Rattle.s3w2_script.proofs.sounding.sides.Statement.{statement}
 use Rattle.s3w2_script.proofs.sounding.sides.Tie as tie
 
-letter-requires : tie.Need-letter-requires
-letter-requires c κs = search needs
-
-size-requires : tie.Need-size-requires
-size-requires c κs = search needs
+asked-lengths-requires : tie.Need-asked-lengths-requires
+asked-lengths-requires c κs = search needs
 
 least-requires : tie.Need-least-requires
 least-requires c κs = search needs
-
-size-requires-2 : tie.Need-size-requires-2
-size-requires-2 c κs = search needs
 
 least-requires-2 : tie.Need-least-requires-2
 least-requires-2 c κs = search needs
@@ -37,17 +31,17 @@ fill-requires-2 c κs = search needs
 array-borrow-prefix-left : tie.Need-array-borrow-prefix-left
 array-borrow-prefix-left c = search needs
 
-slice-aggregate-mixed : tie.Need-slice-aggregate-mixed
-slice-aggregate-mixed c = sym (length-take-le _ _ (search needs))
+slice-aggregate-clocked : tie.Need-slice-aggregate-clocked
+slice-aggregate-clocked c = sym (length-take-le _ _ (search needs))
 
 array-borrow-prefix-right : tie.Need-array-borrow-prefix-right
 array-borrow-prefix-right c = search needs
 
-slice-aggregate-mixed-2 : tie.Need-slice-aggregate-mixed-2
-slice-aggregate-mixed-2 c = sym (length-take-le _ _ (search needs))
+slice-aggregate-clocked-2 : tie.Need-slice-aggregate-clocked-2
+slice-aggregate-clocked-2 c = sym (length-take-le _ _ (search needs))
 
-mixed-requires : tie.Need-mixed-requires
-mixed-requires c κs = search needs
+clocked-requires : tie.Need-clocked-requires
+clocked-requires c κs = search needs
 
 same-length : tie.Need-same-length
 same-length c = search needs
@@ -59,10 +53,8 @@ pub sides-spec : {M : Type 1} → statement M
 sides-spec =
     tie.close
     (tie.spec
-    letter-requires
-    size-requires
+    asked-lengths-requires
     least-requires
-    size-requires-2
     least-requires-2
     slice-aggregate-fill
     long-requires
@@ -70,9 +62,9 @@ sides-spec =
     slice-aggregate-fill-2
     fill-requires-2
     array-borrow-prefix-left
-    slice-aggregate-mixed
+    slice-aggregate-clocked
     array-borrow-prefix-right
-    slice-aggregate-mixed-2
-    mixed-requires
+    slice-aggregate-clocked-2
+    clocked-requires
     same-length
     returns)

@@ -60,8 +60,8 @@ returns-2 : tie.Need-returns-2
 returns-2 c =
     told-room _ _ _
     (let a = c .before .before .before .before .before .before .before .before .before .before .before .before .before .before .before .before .before .before .before .before .args in
-    write-yes (a .ch) (a .c) (a .wavetable .now) (a .queue .now) (a .out .now) _ _ _ (c .before .before .before .before .before .before .before .before .before .before .before .before .before .before .before .before .before .if1 .left)
-    (packed (a .ch) (a .c) (a .wavetable .now) (a .queue .now) (replicate 2330 0) _ _ _ _ (omega (arith, length-replicate {0} {A = ℕ} 2330 0)) (c .before .before .before .before .before .before .before .before .before .before .before .before .put-first .ensures ∙ ap (sets (replicate 2330 0) 0) (c .before .before .before .before .before .before .before .before .before .before .before .before .before .before .before .state-numbers .ensures)) (c .before .before .before .before .before .before .before .before .before .put-table .ensures) (c .before .before .before .before .before .before .put-queue .ensures .1) (c .before .before .before .before .before .before .put-queue .ensures .0))
+    write-yes (a .voice) (a .c) (a .wavetable .now) (a .queue .now) (a .out .now) _ _ _ (c .before .before .before .before .before .before .before .before .before .before .before .before .before .before .before .before .before .if1 .left)
+    (packed (a .voice) (a .c) (a .wavetable .now) (a .queue .now) (replicate 2330 0) _ _ _ _ (omega (arith, length-replicate {0} {A = ℕ} 2330 0)) (c .before .before .before .before .before .before .before .before .before .before .before .before .put-first .ensures ∙ ap (sets (replicate 2330 0) 0) (c .before .before .before .before .before .before .before .before .before .before .before .before .before .before .before .state-numbers .ensures)) (c .before .before .before .before .before .before .before .before .before .put-table .ensures) (c .before .before .before .before .before .before .put-queue .ensures .1) (c .before .before .before .before .before .before .put-queue .ensures .0))
     (c .before .before .write-line .ensures .0) (c .before .before .write-line .ensures .1 .0))
 
 pub write-voice-spec : {M : Type 1} → statement M

@@ -4,7 +4,7 @@ use Rattle.sound_program.proofs.files.put_heads.Statement.{statement}
 use Rattle.sound_program.proofs.files.put_heads.Tie as tie
 use Rattle.sound_program.proofs.files.put_heads.Reads as reads
 use Rattle.sound_program.proofs.files.put_heads.Lts as lts
-use Rattle.sound_program.proofs.files.of_channel.Reads as of-channel-reads
+use Rattle.sound_program.proofs.files.of_voice.Reads as of-voice-reads
 use Rattle.sound_program.proofs.files.put_head.Reads as put-head-reads
 
 abbrev Inv-loop : tie.InvT-loop
@@ -16,8 +16,8 @@ abbrev μ-loop : tie.MeasureT-loop
 loop-holds : tie.Need-loop-holds Inv-loop μ-loop
 loop-holds c = search needs
 
-of-channel-requires : tie.Need-of-channel-requires Inv-loop μ-loop
-of-channel-requires c κs = search needs
+of-voice-requires : tie.Need-of-voice-requires Inv-loop μ-loop
+of-voice-requires c κs = search needs
 
 put-head-requires : tie.Need-put-head-requires Inv-loop μ-loop
 put-head-requires c κs = search needs
@@ -44,7 +44,7 @@ put-heads-spec =
     Inv-loop
     μ-loop
     loop-holds
-    of-channel-requires
+    of-voice-requires
     put-head-requires
     returns
     add-n

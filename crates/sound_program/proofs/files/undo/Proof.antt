@@ -5,7 +5,7 @@ use Rattle.sound_program.proofs.files.undo.Tie as tie
 use Rattle.sound_program.proofs.files.undo.Reads as reads
 use Rattle.sound_program.proofs.files.undo.Lts as lts
 use Rattle.libc.proofs.ftruncate.Reads as ftruncate-reads
-use Rattle.sound_program.proofs.files.of_channel.Reads as of-channel-reads
+use Rattle.sound_program.proofs.files.of_voice.Reads as of-voice-reads
 
 abbrev Inv-loop : tie.InvT-loop
 Inv-loop files place n₀ n = n ≤ files .count
@@ -16,8 +16,8 @@ abbrev μ-loop : tie.MeasureT-loop
 loop-holds : tie.Need-loop-holds Inv-loop μ-loop
 loop-holds c = search needs
 
-of-channel-requires : tie.Need-of-channel-requires Inv-loop μ-loop
-of-channel-requires c κs = search needs
+of-voice-requires : tie.Need-of-voice-requires Inv-loop μ-loop
+of-voice-requires c κs = search needs
 
 ftruncate-requires : tie.Need-ftruncate-requires Inv-loop μ-loop
 ftruncate-requires c κs = search needs
@@ -41,7 +41,7 @@ undo-spec =
     Inv-loop
     μ-loop
     loop-holds
-    of-channel-requires
+    of-voice-requires
     ftruncate-requires
     add-n
     loop-less

@@ -1,12 +1,8 @@
-use mathlib.Core.Path.{_≡_, sym}
-use lib.Seq.{length-take-le}
 use borrow.Author.Needs.{needs}
+use mathlib.Core.Path.{sym}
+use lib.Seq.{length-take-le}
 use Rattle.sound_program.proofs.measuring.measured.Statement.{statement}
 use Rattle.sound_program.proofs.measuring.measured.Tie as tie
-use Rattle.sound_program.proofs.measuring.measured.Reads as reads
-use Rattle.sound_program.proofs.measuring.measured.Lts as lts
-use Rattle.num.proofs.least.Reads as least-reads
-use Rattle.sound_program.proofs.measuring.with_part.Reads as with-part-reads
 
 least-requires : tie.Need-least-requires
 least-requires c κs = search needs
@@ -20,8 +16,14 @@ mul-room c = search needs
 least-requires-2 : tie.Need-least-requires-2
 least-requires-2 c κs = search needs
 
+least-requires-3 : tie.Need-least-requires-3
+least-requires-3 c κs = search needs
+
 slice-aggregate-with-part : tie.Need-slice-aggregate-with-part
 slice-aggregate-with-part c = sym (length-take-le _ _ (search needs))
+
+slice-aggregate-with-part-2 : tie.Need-slice-aggregate-with-part-2
+slice-aggregate-with-part-2 c = sym (length-take-le _ _ (search needs))
 
 with-part-requires : tie.Need-with-part-requires
 with-part-requires c κs = search needs
@@ -37,6 +39,18 @@ part-with-part-start c = search needs
 
 part-with-part-end : tie.Need-part-with-part-end
 part-with-part-end c = search needs
+
+mul-with-part-2 : tie.Need-mul-with-part-2
+mul-with-part-2 c = search needs
+
+sub-with-part-2 : tie.Need-sub-with-part-2
+sub-with-part-2 c = search needs
+
+part-with-part-start-2 : tie.Need-part-with-part-start-2
+part-with-part-start-2 c = search needs
+
+part-with-part-end-2 : tie.Need-part-with-part-end-2
+part-with-part-end-2 c = search needs
 
 with-part-requires-2 : tie.Need-with-part-requires-2
 with-part-requires-2 c κs = search needs
@@ -67,12 +81,18 @@ measured-spec =
     sub-room
     mul-room
     least-requires-2
+    least-requires-3
     slice-aggregate-with-part
+    slice-aggregate-with-part-2
     with-part-requires
     mul-with-part
     sub-with-part
     part-with-part-start
     part-with-part-end
+    mul-with-part-2
+    sub-with-part-2
+    part-with-part-start-2
+    part-with-part-end-2
     with-part-requires-2
     same-length
     returns

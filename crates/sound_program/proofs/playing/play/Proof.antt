@@ -10,17 +10,17 @@ use Rattle.sound_program.proofs.playing.begun.Reads as begun-reads
 use Rattle.sound_program.proofs.playing.turn.Reads as turn-reads
 
 abbrev Inv-loop : tie.InvT-loop
-Inv-loop sound input₀ ram₀ queues₀ stems₀ out₀ run₀ turns₀ input ram queues stems out run turns =
-    (length input ≡ length input₀) × (length ram ≡ length ram₀) × (length queues ≡ length queues₀) × (length stems ≡ length stems₀) × (length out ≡ length out₀)
+Inv-loop sound input₀ ram₀ queues₀ stems₀ others₀ out₀ run₀ turns₀ input ram queues stems others out run turns =
+    (length input ≡ length input₀) × (length ram ≡ length ram₀) × (length queues ≡ length queues₀) × (length stems ≡ length stems₀) × (length others ≡ length others₀) × (length out ≡ length out₀)
 
 abbrev μ-loop : tie.MeasureT-loop
-μ-loop sound input₀ ram₀ queues₀ stems₀ out₀ run₀ turns₀ input ram queues stems out run turns = turns
+μ-loop sound input₀ ram₀ queues₀ stems₀ others₀ out₀ run₀ turns₀ input ram queues stems others out run turns = turns
 
 begun-requires : tie.Need-begun-requires Inv-loop μ-loop
 begun-requires c κs = search needs
 
 loop-holds : tie.Need-loop-holds Inv-loop μ-loop
-loop-holds c = (refl, refl, refl, refl, refl)
+loop-holds c = (refl, refl, refl, refl, refl, refl)
 
 turn-requires : tie.Need-turn-requires Inv-loop μ-loop
 turn-requires c κs = search needs
@@ -55,6 +55,9 @@ same-length-4 c = search needs
 same-length-5 : tie.Need-same-length-5 Inv-loop μ-loop
 same-length-5 c = search needs
 
+same-length-6 : tie.Need-same-length-6 Inv-loop μ-loop
+same-length-6 c = search needs
+
 returns : tie.Need-returns Inv-loop μ-loop
 returns c = search needs
 
@@ -77,4 +80,5 @@ play-spec =
     same-length-3
     same-length-4
     same-length-5
+    same-length-6
     returns)

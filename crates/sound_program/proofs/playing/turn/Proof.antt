@@ -1,10 +1,6 @@
 use borrow.Author.Needs.{needs}
 use Rattle.sound_program.proofs.playing.turn.Statement.{statement}
 use Rattle.sound_program.proofs.playing.turn.Tie as tie
-use Rattle.sound_program.proofs.playing.turn.Reads as reads
-use Rattle.sound_program.proofs.playing.turn.Lts as lts
-use Rattle.sound_program.proofs.playing.taken.Reads as taken-reads
-use Rattle.sound_program.proofs.playing.unplayed.Reads as unplayed-reads
 
 taken-requires : tie.Need-taken-requires
 taken-requires c κs = search needs
@@ -16,7 +12,7 @@ same-length : tie.Need-same-length
 same-length c = search needs
 
 same-length-2 : tie.Need-same-length-2
-same-length-2 c = c .before .before .before .before .before .before .before .before .before .before .before .before .before .before .taken .kept .1 .1 .1 .0
+same-length-2 c = c .before .before .before .before .before .before .before .before .before .before .before .before .before .before .before .taken .kept .1 .1 .1 .0
 
 same-length-3 : tie.Need-same-length-3
 same-length-3 c = search needs
@@ -27,11 +23,11 @@ same-length-4 c = search needs
 same-length-5 : tie.Need-same-length-5
 same-length-5 c = search needs
 
-returns : tie.Need-returns
-returns c = search needs
-
 same-length-6 : tie.Need-same-length-6
 same-length-6 c = search needs
+
+returns : tie.Need-returns
+returns c = search needs
 
 same-length-7 : tie.Need-same-length-7
 same-length-7 c = search needs
@@ -45,14 +41,14 @@ same-length-9 c = search needs
 same-length-10 : tie.Need-same-length-10
 same-length-10 c = search needs
 
-returns-2 : tie.Need-returns-2
-returns-2 c = search needs
-
 same-length-11 : tie.Need-same-length-11
 same-length-11 c = search needs
 
 same-length-12 : tie.Need-same-length-12
 same-length-12 c = search needs
+
+returns-2 : tie.Need-returns-2
+returns-2 c = search needs
 
 same-length-13 : tie.Need-same-length-13
 same-length-13 c = search needs
@@ -62,6 +58,15 @@ same-length-14 c = search needs
 
 same-length-15 : tie.Need-same-length-15
 same-length-15 c = search needs
+
+same-length-16 : tie.Need-same-length-16
+same-length-16 c = search needs
+
+same-length-17 : tie.Need-same-length-17
+same-length-17 c = search needs
+
+same-length-18 : tie.Need-same-length-18
+same-length-18 c = search needs
 
 returns-3 : tie.Need-returns-3
 returns-3 c = search needs
@@ -77,16 +82,19 @@ turn-spec =
     same-length-3
     same-length-4
     same-length-5
-    returns
     same-length-6
+    returns
     same-length-7
     same-length-8
     same-length-9
     same-length-10
-    returns-2
     same-length-11
     same-length-12
+    returns-2
     same-length-13
     same-length-14
     same-length-15
+    same-length-16
+    same-length-17
+    same-length-18
     returns-3)

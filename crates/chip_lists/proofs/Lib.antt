@@ -1,0 +1,9 @@
+pub mod Parts
+pub mod Plays
+pub mod SecondCalls
+pub mod Ones
+pub mod Rested
+pub mod Slices
+pub mod Each
+pub mod Listed
+pub mod Alone
