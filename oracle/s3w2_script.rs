@@ -1,5 +1,8 @@
-// Plays a script of calls on the original chip: reads lines from standard input, prints each call's answer. README.md
-// lists the lines.
+// Plays a script of calls on two of the original chips over one RAM: reads lines from standard input, prints each call's answer.
+// README.md lists the lines. Until a k line names core 1 the second chip is left alone and the first one's own calls are made. Behind it
+// a RAM write is made through both chips (with the argument --one through the one that the last k line names), the sides are those of
+// both `clock_mixed_into_i32` added, and under V1 the second chip is not clocked. With --over it says on standard error how many sides
+// of pairs were clamped, and how many of them differ where each chip is clamped before the sum.
 //
 // With the argument --stale it says on standard error after which lines a voice's cache holds anything else than a new
 // `initialize_sqv4` and decoding would give it; with --queued after which lines a voice of a V1 or V2 chip has anything in its
@@ -26,13 +29,17 @@ impl Seeded {
 }
 
 /// Which voices are active, before a call.
-fn on(chip: &S3w2Sound) -> [bool; 8] {
-    std::array::from_fn(|ch| chip.channels[ch].is_on())
+fn on(chips: &[S3w2Sound; 2]) -> [bool; 16] {
+    std::array::from_fn(|v| chips[v / 8].channels[v % 8].is_on())
 }
 
-/// The voices that were and are so no more, bit n for channel n.
-fn ended(was: [bool; 8], chip: &S3w2Sound) -> i128 {
-    (0..8).map(|ch| i128::from(was[ch] && !chip.channels[ch].is_on()) << ch).sum()
+/// The voices that were and are so no more, bit 8 k + n for channel n of core k.
+fn ended(was: [bool; 16], chips: &[S3w2Sound; 2]) -> i128 {
+    (0..16).map(|v| i128::from(was[v] && !chips[v / 8].channels[v % 8].is_on()) << v).sum()
+}
+
+fn clamped(x: i32) -> i16 {
+    x.clamp(-32768, 32767) as i16
 }
 
 fn is_ram_length(n: usize) -> bool {
@@ -40,17 +47,25 @@ fn is_ram_length(n: usize) -> bool {
 }
 
 struct Player {
-    chip: S3w2Sound,
+    chips: [S3w2Sound; 2],
+    core: usize,
+    paired: bool,
+    one: bool,
+    over: u64,
+    twice: u64,
     ram: usize,
     queues: usize,
-    bad_queue: [bool; 8],
+    bad_queue: [bool; 16],
 }
 
 type Answer = Result<Vec<i128>, i128>;
 
 impl Player {
     fn state(&self, ram: Option<usize>) -> Result<(), i128> {
-        let fine = (0..8).all(|ch| !self.bad_queue[ch] && self.chip.channels[ch].is_accepted(self.chip.version, ram));
+        let fine = (0..16).all(|v| {
+            let chip = &self.chips[v / 8];
+            !self.bad_queue[v] && chip.channels[v % 8].is_accepted(chip.version, ram)
+        });
         if fine { Ok(()) } else { Err(3) }
     }
 
@@ -58,7 +73,7 @@ impl Player {
         if takes_ram && !is_ram_length(self.ram) {
             return Err(1);
         }
-        if takes_queues && self.queues != 16384 {
+        if takes_queues && self.queues != 32768 {
             return Err(2);
         }
         self.state(takes_ram.then_some(self.ram))
@@ -66,7 +81,7 @@ impl Player {
 
     fn make(&mut self, f: &[i128]) -> Answer {
         let length = f[1] as usize;
-        *self = Player::new(version_of(f[0]));
+        *self = Player { one: self.one, over: self.over, twice: self.twice, ..Player::new(version_of(f[0])) };
         self.ram = length;
         if !is_ram_length(length) {
             return Err(1);
@@ -77,8 +92,29 @@ impl Player {
 
     fn new(version: SguVersion) -> Player {
         let ram = std::rc::Rc::new(std::cell::RefCell::new(vec![0x55; PCM_RAM_SIZE]));
-        let chip = S3w2Sound::with_version(ram, version);
-        Player { chip, ram: PCM_RAM_SIZE, queues: 16384, bad_queue: [false; 8] }
+        let chips = std::array::from_fn(|_| S3w2Sound::with_version(ram.clone(), version));
+        Player {
+            chips, core: 0, paired: false, one: false, over: 0, twice: 0, ram: PCM_RAM_SIZE, queues: 32768, bad_queue: [false; 16],
+        }
+    }
+
+    fn poke(&mut self, address: u32, value: u8) {
+        if self.one {
+            return self.chips[self.core.min(1)].write_pcm_ram(address, value);
+        }
+        for chip in &mut self.chips {
+            chip.write_pcm_ram(address, value);
+        }
+    }
+
+    /// What a call on a core above 1 answers.
+    fn none(code: u8) -> Option<Answer> {
+        match code {
+            b'R' | b'P' | b't' | b'c' | b'q' | b'w' | b'i' => Some(Ok(vec![0])),
+            b'G' => Some(Ok(vec![0, 0])),
+            b'W' | b'C' | b'Q' | b'T' | b'z' => Some(Ok(vec![])),
+            _ => None,
+        }
     }
 
     fn call(&mut self, code: u8, f: &[i128]) -> Answer {
@@ -92,25 +128,32 @@ impl Player {
             b'G' | b'S' | b'X' | b'Y' | b'y' => (true, true),
             _ => (false, false),
         };
-        if !matches!(code, b'N' | b'A' | b'O' | b'U' | b'u' | b'l' | b'E' | b'F' | b'D' | b'K') {
+        if !matches!(code, b'N' | b'k' | b'A' | b'O' | b'U' | b'u' | b'l' | b'E' | b'F' | b'D' | b'K') {
             self.check(ram, queues)?;
         }
+        if self.core > 1 {
+            if let Some(answer) = Player::none(code) {
+                return answer;
+            }
+        }
         let past = |ch: usize, chip: &S3w2Sound| ch > 7 && chip.version == SguVersion::V3_1;
-        let c = &mut self.chip;
+        let core = self.core.min(1);
+        let c = &mut self.chips[core];
         let one = |x: i128| Ok(vec![x]);
         match code {
             b'N' => return self.make(f),
-            b'V' => c.set_version(version_of(f[0])),
-            b'Z' => c.reset(),
+            b'k' => (self.core, self.paired) = (u(0), self.paired || u(0) == 1),
+            b'V' => self.chips.iter_mut().for_each(|c| c.set_version(version_of(f[0]))),
+            b'Z' => self.chips.iter_mut().for_each(|c| c.reset()),
             b'z' => c.reset_channel(u(0)),
             b'W' => c.write_register(a(0), b(1)),
             b'R' => return one(c.read_register(a(0)).into()),
             b'P' => return one(c.peek_register(a(0)).into()),
-            b'M' => c.write_pcm_ram(a(0), b(1)),
+            b'M' => self.poke(a(0), b(1)),
             b'm' => return one(c.read_pcm_ram(a(0)).into()),
             b'B' => {
                 for (i, &x) in f[1..].iter().enumerate() {
-                    c.write_pcm_ram(a(0) + i as u32, x as u8);
+                    self.poke(a(0) + i as u32, x as u8);
                 }
             }
             b'T' => c.write_channel_wavetable(u(0), b(1), b(2)),
@@ -123,9 +166,12 @@ impl Player {
             b'w' => return one(if past(u(0), c) { 0 } else { c.wavetable_length(u(0)) as i128 }),
             b'i' => return one(if past(u(0), c) { 0 } else { c.interpolates(u(0)).into() }),
             b'G' => {
-                let was = on(c);
-                let sample = c.generate_sample(u(0)).into();
-                return Ok(vec![sample, (ended(was, c) != 0).into()]);
+                if core == 1 && c.version == SguVersion::V1 {
+                    return Ok(vec![0, 0]);
+                }
+                let was = on(&self.chips);
+                let sample = self.chips[core].generate_sample(u(0)).into();
+                return Ok(vec![sample, (ended(was, &self.chips) != 0).into()]);
             }
             b'U' => {
                 let bytes: Vec<u8> = f.iter().map(|&x| x as u8).collect();
@@ -152,32 +198,64 @@ impl Player {
         none
     }
 
+    /// Whether the second chip is clocked.
+    fn second(&self) -> bool {
+        self.paired && self.chips[1].version != SguVersion::V1
+    }
+
     fn stems(&mut self, frames: usize, length: usize) -> Answer {
-        if length % 16 != 0 || length / 16 != frames {
+        if length % 32 != 0 || length / 32 != frames {
             return Err(14);
         }
-        let was = on(&self.chip);
-        let out = self.chip.clock(frames);
-        let mut all = vec![ended(was, &self.chip)];
+        let was = on(&self.chips);
+        let first = self.chips[0].clock(frames);
+        let second = self.second().then(|| self.chips[1].clock(frames));
+        let mut all = vec![ended(was, &self.chips)];
         for i in 0..frames {
             for ch in 0..8 {
-                all.extend([i128::from(out[ch][0][i]), i128::from(out[ch][1][i])]);
+                all.extend([i128::from(first[ch][0][i]), i128::from(first[ch][1][i])]);
+            }
+            for ch in 0..8 {
+                let stem = |hand: usize| second.as_ref().map_or(0, |s| i128::from(s[ch][hand][i]));
+                all.extend([stem(0), stem(1)]);
             }
         }
         Ok(all)
+    }
+
+    /// Both chips' frames ahead of the clamp, added.
+    fn sums(&mut self, n: usize) -> (Vec<i32>, Vec<i32>) {
+        let (mut l, mut r) = (vec![0; n], vec![0; n]);
+        let (mut l2, mut r2) = (vec![0; n], vec![0; n]);
+        self.chips[0].clock_mixed_into_i32(&mut l, &mut r);
+        if self.second() {
+            self.chips[1].clock_mixed_into_i32(&mut l2, &mut r2);
+        }
+        for (x, y) in l.iter_mut().zip(l2).chain(r.iter_mut().zip(r2)) {
+            let each = i32::from(clamped(*x)) + i32::from(clamped(y));
+            *x += y;
+            self.over += u64::from(i32::from(clamped(*x)) != *x);
+            self.twice += u64::from(clamped(each) != clamped(*x));
+        }
+        (l, r)
     }
 
     fn sides(&mut self, code: u8, left: usize, right: usize, seed: u64) -> Answer {
         let mut s = Seeded(seed);
         let mut l: Vec<i16> = (0..left).map(|_| s.next() as i16).collect();
         let mut r: Vec<i16> = (0..right).map(|_| s.next() as i16).collect();
-        if code == b'X' {
-            let n = left.min(right);
-            let (a, b) = self.chip.clock_mixed(n);
+        let n = left.min(right);
+        if self.paired {
+            let (a, b) = self.sums(n);
+            for (x, y) in l.iter_mut().zip(a).chain(r.iter_mut().zip(b)) {
+                *x = if code == b'X' { clamped(y) } else { x.saturating_add(clamped(y)) };
+            }
+        } else if code == b'X' {
+            let (a, b) = self.chips[0].clock_mixed(n);
             l[..n].copy_from_slice(&a);
             r[..n].copy_from_slice(&b);
         } else {
-            self.chip.clock_mixed_into(&mut l, &mut r);
+            self.chips[0].clock_mixed_into(&mut l, &mut r);
         }
         Ok(l.iter().chain(&r).map(|&x| x.into()).collect())
     }
@@ -187,19 +265,26 @@ impl Player {
         let mut wide = |_| (u32::from(s.next()) << 16 | u32::from(s.next())) as i32;
         let mut l: Vec<i32> = (0..left).map(&mut wide).collect();
         let mut r: Vec<i32> = (0..right).map(&mut wide).collect();
-        let was = on(&self.chip);
-        self.chip.clock_mixed_into_i32(&mut l, &mut r);
-        let set = ended(was, &self.chip);
+        let was = on(&self.chips);
+        if self.paired {
+            let (a, b) = self.sums(left.min(right));
+            for (x, y) in l.iter_mut().zip(a).chain(r.iter_mut().zip(b)) {
+                *x = x.wrapping_add(y);
+            }
+        } else {
+            self.chips[0].clock_mixed_into_i32(&mut l, &mut r);
+        }
+        let set = ended(was, &self.chips);
         Ok(std::iter::once(set).chain(l.iter().chain(&r).map(|&x| x.into())).collect())
     }
 
     fn set_state(&mut self, ch: usize, f: &[i128]) {
-        let c = &mut self.chip.channels[ch];
+        let c = &mut self.chips[self.core.min(1)].channels[ch];
         c.set_state(f);
         let (head, count) = (f[24] as usize, f[25] as usize);
         let mut s = Seeded(f[26] as u64);
         c.fifo = (0..count).map(|_| s.next() as i16).collect();
-        self.bad_queue[ch] = head > 2047 || count > 2048;
+        self.bad_queue[8 * self.core.min(1) + ch] = head > 2047 || count > 2048;
         let mut s = Seeded(f[27] as u64);
         for slot in c.wavetable.iter_mut() {
             *slot = if f[27] == 0 { 128 } else { (s.next() % 256) as u8 };
@@ -209,7 +294,7 @@ impl Player {
     fn set_cache(&mut self, ch: usize, f: &[i128]) {
         let mut s = Seeded(f[12] as u64);
         let samples: Vec<i16> = (0..128).map(|_| if f[12] == 0 { 0 } else { s.next() as i16 }).collect();
-        self.chip.channels[ch].set_cache(f, &samples);
+        self.chips[self.core.min(1)].channels[ch].set_cache(f, &samples);
     }
 }
 
@@ -217,11 +302,13 @@ fn main() {
     let word = std::env::args().nth(1);
     let looks = word.as_deref() == Some("--stale");
     let counts = word.as_deref() == Some("--queued");
+    let one = std::env::args().any(|w| w == "--one");
+    let over = std::env::args().any(|w| w == "--over");
     let mut looked = 0;
     let mut text = String::new();
     std::io::stdin().read_to_string(&mut text).unwrap();
     let mut out = BufWriter::new(std::io::stdout().lock());
-    let mut player = Player::new(SguVersion::V3_1);
+    let mut player = Player { one, ..Player::new(SguVersion::V3_1) };
     for (number, line) in text.lines().enumerate() {
         let mut words = line.split(',');
         let code = words.next().unwrap().as_bytes()[0];
@@ -231,17 +318,20 @@ fn main() {
             Ok(values) => values.iter().map(|v| format!(",{v}")).collect(),
         };
         writeln!(out, "{}{told}", code as char).unwrap();
-        for ch in (0..8).filter(|_| looks) {
-            if player.chip.is_stale(ch) {
-                eprintln!("stale: channel {ch} after line {}, {line}", number + 1);
+        for v in (0..16).filter(|_| looks) {
+            if player.chips[v / 8].is_stale(v % 8) {
+                eprintln!("stale: voice {v} after line {}, {line}", number + 1);
             }
         }
-        if counts && matches!(player.chip.version, SguVersion::V1 | SguVersion::V2) {
+        if counts && matches!(player.chips[0].version, SguVersion::V1 | SguVersion::V2) {
             looked += 1;
-            for ch in (0..8).filter(|&ch| player.chip.channels[ch].is_queued()) {
-                eprintln!("queued: channel {ch} after line {}, {line}", number + 1);
+            for v in (0..16).filter(|v| player.chips[v / 8].channels[v % 8].is_queued()) {
+                eprintln!("queued: voice {v} after line {}, {line}", number + 1);
             }
         }
+    }
+    if over {
+        eprintln!("over {} twice {}", player.over, player.twice);
     }
     if counts {
         eprintln!("looked at a chip of V1 or V2 after {looked} lines");

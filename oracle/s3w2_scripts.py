@@ -1,8 +1,9 @@
 #!/usr/bin/env python3
-"""s3w2_scripts.py SEED COUNT LENGTH [--calls]: random lists of calls for s3w2_script, the same for the same words.
+"""s3w2_scripts.py SEED COUNT LENGTH [--calls] [--pairs | --apart]: random lists of calls for s3w2_script, the same for the same words.
 
 Writes COUNT lists over a RAM of LENGTH bytes to standard output, one after the other. Each begins with an N line and ends
-with the state of every voice and a sum over the RAM. With --calls no line sets a voice's state.
+with the state of every voice and a sum over the RAM. With --calls no line sets a voice's state. With --pairs the calls are made on both
+cores, and now and then on one that is not there; with --apart too, but no byte of a stream is written once it has begun.
 """
 import random
 import sys
@@ -21,17 +22,39 @@ QUEUED = [20, 21, 22, 23, 25]  # of a state's fields held, hold, sub-tick, latch
 class List:
     """One list of calls."""
 
-    def __init__(self, seed, number, length, states=True):
-        self.rng = random.Random(f"{seed}/{number}/{length}")
+    def __init__(self, seed, number, length, states=True, cores="one"):
+        self.rng = random.Random(f"{seed}/{number}/{length}" + ("" if cores == "one" else f"/{cores}"))
         self.length = length
-        self.states = states
+        self.apart = cores == "apart"
+        self.pairs = cores != "one"
+        self.states = states and not self.apart
+        self.core = 0
+        self.loud = self.pairs and self.rng.random() < 0.3
+        self.high = self.loud and self.rng.random() < 0.5
         self.lines = []
         self.version = 4
         self.streams = []
-        self.odd = set()  # voices in states that are not accepted
+        self.odd = set()  # cores and channels of voices in states that are not accepted
 
     def put(self, code, *fields):
         self.lines.append(",".join([code, *map(str, fields)]))
+
+    def name_core(self, core):
+        self.core = core
+        self.put("k", core)
+
+    def any_core(self):
+        """Mostly one of the two."""
+        if self.pairs and self.rng.random() < 0.4:
+            self.name_core(self.rng.choice([2, 3, 255, 4294967295]) if self.rng.random() < 0.05 else self.rng.randrange(2))
+
+    def real_core(self):
+        if self.core > 1:
+            self.name_core(self.rng.randrange(2))
+
+    def is_free(self, start, count):
+        """Whether no byte of a stream is among these, where that is asked for."""
+        return not self.apart or all(start + count <= s or e <= start for s, e in self.streams)
 
     def byte(self):
         return self.rng.choice(BYTES) if self.rng.random() < 0.5 else self.rng.randrange(256)
@@ -89,6 +112,8 @@ class List:
                 self.put("T", self.channel(), at, self.byte())
 
     def load(self, start, data):
+        if not self.is_free(start, len(data)):
+            return
         for k in range(0, len(data), 180):
             self.put("B", start + k, *data[k:k + 180])
 
@@ -126,6 +151,8 @@ class List:
         data, places = self.file()
         start = rng.choice([0, self.length - len(data), rng.randrange(self.length - len(data) + 1)])
         end = start + len(data)
+        if not self.is_free(start, len(data)):
+            return
         self.load(start, data)
         loop = rng.choice([0, start] + [start + p for p in places] * 2)
         if rng.random() < 0.06:
@@ -175,6 +202,23 @@ class List:
                 self.control(ch, 0, 0)
                 self.control(ch, 1, f)
 
+    def shout(self, ch):
+        """A voice as loud as one can be: a queue of one sample, or a table of one byte, high on one core and low on the other."""
+        rng = self.rng
+        high = (self.core == 0) == self.high
+        self.control(ch, 3, 255)
+        self.control(ch, 4, 255)
+        self.control(ch, 5, 0)
+        kind = 5 if self.version >= 2 and rng.random() < 0.7 else 0
+        self.control(ch, 2, kind)
+        if kind == 5:
+            for _ in range(rng.randrange(1, 4)):
+                self.control(ch, 0x0C, 0x7F if high else 0x80)
+                self.control(ch, 0x0D, 0xFF if high else 0)
+            self.control(ch, 0, 255)
+        else:
+            self.put("W", 256 * ch, 255 if high else 0)
+
     def push(self, ch):
         self.control(ch, 0x0C, self.byte())
         self.control(ch, 0x0D, self.byte())
@@ -218,16 +262,16 @@ class List:
 
     def set_state(self, ch):
         fields = self.state(ch)
-        self.odd.discard(ch)
+        self.odd.discard((self.core, ch))
         if self.rng.random() < 0.08:
             k, x = self.rng.choice([(5, 8), (6, 2), (9, 1 << 24), (10, 1 << 24), (11, 1 << 24), (13, 8), (16, 1 << 35),
                                     (19, 65281), (21, 65536), (22, 4), (24, 2048), (25, 2049), (1, 5)])
             fields[k] = x
             if (k, self.version) not in [(1, 2), (1, 3), (1, 4)]:
-                self.odd.add(ch)
+                self.odd.add((self.core, ch))
         elif self.version < 2 and self.rng.random() < 0.25:
             self.queue_up(fields)
-            self.odd.add(ch)
+            self.odd.add((self.core, ch))
         self.put("E", ch, *fields)
         self.put("F", ch, 0, *[0] * 12)
 
@@ -243,7 +287,7 @@ class List:
         start = rng.randrange(self.length - length + 1)
         end = start + length
         fields = self.state(ch, 4, start, end)
-        self.odd.discard(ch)
+        self.odd.discard((self.core, ch))
         if rng.random() < 0.7:
             fields[15] = rng.randrange(max(1, samples) << 29)
         half = lambda parity: rng.choice([0] + [f + 1 for f in range(parity, frames, 2)] * 2)
@@ -251,7 +295,7 @@ class List:
                  rng.randrange(frames + 1), rng.choice([0, 32767, -32768, rng.randrange(-32768, 32768)]),
                  rng.randrange(89), rng.randrange(1, 1 << 31)]
         if rng.random() < 0.08:
-            self.odd.add(ch)
+            self.odd.add((self.core, ch))
             k = rng.choice([1, 2, 3, 4, 5, 6, 7, 8, 9, 11, 13, 14])
             if k == 13:
                 fields[1] = rng.choice([0, 1, 2, 3])
@@ -278,8 +322,8 @@ class List:
         if k < 2:
             self.put("G", self.channel())
         elif k < 5:
-            length = 16 * frames if rng.random() < 0.93 else rng.choice([0, 15, 17, 16 * frames + 16, 16 * frames + 1])
-            self.put("S", frames, min(length, 8192)) if frames <= 512 else self.put("S", 3, 48)
+            length = 32 * frames if rng.random() < 0.93 else rng.choice([0, 31, 33, 16 * frames, 32 * frames + 32, 32 * frames + 1])
+            self.put("S", frames, min(length, 16384)) if frames <= 512 else self.put("S", 3, 96)
         else:
             self.put("XYYyy"[k - 5], frames, other, seed)
 
@@ -324,6 +368,10 @@ class List:
             data[rng.randrange(len(data))] = rng.choice([rng.randrange(256), 0xC2, 0xE2, 0x80])
         return data or [32]
 
+    def poke(self, address):
+        if self.is_free(address, 1):
+            self.put("M", address, self.byte())
+
     def write(self):
         rng = self.rng
         k = rng.randrange(14)
@@ -338,9 +386,9 @@ class List:
         elif k < 9 and self.streams:
             start, end = rng.choice(self.streams)
             at = rng.choice([start, end - 1, end, max(0, start - 1), rng.randrange(start, end) if start < end else start])
-            self.put("M", at & 0xFFFFFFFF, self.byte())
+            self.poke(at & 0xFFFFFFFF)
         elif k < 10:
-            self.put("M", self.address(), self.byte())
+            self.poke(self.address())
         elif k == 10:
             self.push(rng.randrange(8))
         elif k == 11:
@@ -371,10 +419,10 @@ class List:
             self.set_stream_state(rng.randrange(8))
         elif k == 9:
             ram = rng.choice([self.length, 0, 1, 255, 257, self.length - 1, min(self.length + 1, 1000000), 300000])
-            self.put("l", ram, rng.choice([16384, 16384, 0, 2048, 16383, 16385]))
+            self.put("l", ram, rng.choice([32768, 32768, 0, 16384, 32767, 32769]))
             for _ in range(rng.randrange(1, 6)):
                 rng.choice([self.read, self.write, self.sound])()
-            self.put("l", self.length, 16384)
+            self.put("l", self.length, 32768)
         elif k == 10:
             self.put("N", rng.randrange(5), rng.choice([0, 1, 255, 257, 258, 5000, 1000000]))
             self.read()
@@ -387,24 +435,37 @@ class List:
         self.version = self.rng.choice([0, 1, 2, 3, 4, 4])
         self.streams = []
         self.odd = set()
+        self.core = 0
         self.put("N", self.version, self.length)
 
     def mend(self):
         """Every voice in an accepted state again."""
-        for ch in range(8):
-            self.put("E", ch, *self.state(ch, 0, 0, 0))
-            self.put("F", ch, 0, *[0] * 12)
+        for core in self.cores():
+            for ch in range(8):
+                self.put("E", ch, *self.state(ch, 0, 0, 0))
+                self.put("F", ch, 0, *[0] * 12)
         self.odd = set()
+
+    def cores(self):
+        """Each core in turn, named where there are two."""
+        for core in range(2 if self.pairs else 1):
+            if self.pairs:
+                self.name_core(core)
+            yield core
 
     def made(self):
         rng = self.rng
         self.new()
-        for ch in range(8):
-            if rng.random() < 0.75:
-                self.start_voice(ch)
+        for core in self.cores():
+            for ch in range(8):
+                if self.loud and rng.random() < 0.8:
+                    self.shout(ch)
+                elif rng.random() < 0.75:
+                    self.start_voice(ch)
         calls = rng.randrange(40, 90)
         while calls > 0:
             calls -= 1
+            self.any_core()
             k = rng.random()
             if k < 0.42:
                 self.sound()
@@ -415,30 +476,48 @@ class List:
             elif k < 0.85:
                 self.start_voice(rng.randrange(8))
             elif k < 0.93:
+                self.real_core()
                 self.rare()
             else:
+                self.real_core()
                 self.put("D", rng.randrange(8))
             if self.odd and rng.random() < 0.3:
                 self.mend()
-        for ch in range(8):
-            self.put("D", ch)
-        self.put("l", self.length, 16384)
+        for core in self.cores():
+            for ch in range(8):
+                self.put("D", ch)
+        self.put("l", self.length, 32768)
         self.put("K")
         return self.lines
 
 
-def lines(seed, number, length, states=True):
+def lines(seed, number, length, states=True, cores="one"):
     """List `number` of a seed, over a RAM of a length; without `states` no line sets a voice's state."""
-    return List(seed, number, length, states).made()
+    return List(seed, number, length, states, cores).made()
+
+
+def beyond(seed, length, cores):
+    """A list without set states, and behind it every call that names a core on cores that are not there, with all voices after each core."""
+    made = lines(seed, "beyond", length, False, cores)
+    for core in (2, 3, 8, 255, 256, 65536, 4294967295):
+        made.append(f"k,{core}")
+        for ch in (0, 5, 7, 8):
+            block = 0x800 + 32 * ch
+            made += [f"W,{block + k},{k + 1}" for k in range(27)] + [f"W,{256 * ch + 3},9", f"R,{block + 10}", f"R,{block + 3}", f"P,{256 * ch}"]
+            made += [f"{code},{ch},{k},7" for code in "CQT" for k in (0, 2, 3, 9, 10)] + [f"{code},{ch},{k}" for code in "cqt" for k in (0, 3, 9)]
+            made += [f"{code},{ch}" for code in "wiGz"]
+        made += [line for k in range(2) for line in [f"k,{k}"] + [f"D,{ch}" for ch in range(8)]]
+    return made
 
 
 def main():
-    words = [w for w in sys.argv[1:] if w != "--calls"]
+    words = [w for w in sys.argv[1:] if not w.startswith("--")]
     if len(words) != 3:
         sys.exit(__doc__)
     seed, count, length = map(int, words)
+    cores = "apart" if "--apart" in sys.argv else "pairs" if "--pairs" in sys.argv else "one"
     for number in range(count):
-        made = lines(seed, number, length, "--calls" not in sys.argv)
+        made = lines(seed, number, length, "--calls" not in sys.argv, cores)
         sys.stdout.write("".join(line + "\n" for line in made))
 
 

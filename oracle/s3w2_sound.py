@@ -7,6 +7,7 @@ import wave
 
 TOP = pathlib.Path(__file__).resolve().parent.parent
 RATE, TENTH = 48000, 4800
+STEMS, VOICES = 32, 16
 
 
 def driver(name):
@@ -15,10 +16,10 @@ def driver(name):
 
 
 def stems_of(script, log):
-    """The original's stems of a log without a bad line, 16 a frame."""
+    """The original's stems of a log without a bad line, 32 a frame."""
     lines = ["N,4,65536"]
     for line in log.decode().split("\n"):
-        lines.append(f"S,{line[2:]},{16 * int(line[2:])}" if line[:1] == "C" else line)
+        lines.append(f"S,{line[2:]},{STEMS * int(line[2:])}" if line[:1] == "C" else line)
     text = "".join(line + "\n" for line in lines if line)
     printed = subprocess.run([script], input=text.encode(), stdout=subprocess.PIPE, check=True).stdout.decode()
     stems = array.array("h")
@@ -40,15 +41,15 @@ def clamped(x):
 def levels_of(stems):
     """The lines of each tenth of a second, and how many values are over."""
     lines, overs = [], 0
-    for first in range(0, len(stems), 16 * TENTH):
-        part = stems[first:first + 16 * TENTH]
-        fields = [len(part) // 16]
+    for first in range(0, len(stems), STEMS * TENTH):
+        part = stems[first:first + STEMS * TENTH]
+        fields = [len(part) // STEMS]
         for hand in (0, 1):
-            side = [sum(part[k + hand:k + 16:2]) for k in range(0, len(part), 16)]
+            side = [sum(part[k + hand:k + STEMS:2]) for k in range(0, len(part), STEMS)]
             over = sum(x != clamped(x) for x in side)
             fields += [max(abs(x) for x in side), sum(x * x for x in side), over]
             overs += over
-        fields += [max(abs(x) for k in (2 * ch, 2 * ch + 1) for x in part[k::16]) for ch in range(8)]
+        fields += [max(abs(x) for k in (2 * ch, 2 * ch + 1) for x in part[k::STEMS]) for ch in range(8)]
         lines.append(fields)
     return lines, overs
 

@@ -87,11 +87,11 @@ state_line_at_fault() { # FIELD
     cat -- "${shown[@]}" 2>/dev/null | LC_ALL=C tr '\000' '?' | FIELD=$1 LC_ALL=C awk -F, '
         BEGIN {
             at = ENVIRON["FIELD"] + 0
-            split("7 65535 5 255 255 6 7 1 65535 65535 16777215 16777215 16777215 255 7 1 18446744073709551615 34359738367 4294967295" \
+            split("15 65535 5 255 255 6 7 1 65535 65535 16777215 16777215 16777215 255 7 1 18446744073709551615 34359738367 4294967295" \
                 " s 65280 s 65535 3 255", most, " ")
         }
         line == 0 && /^[FRP]/ { next }
-        line > 8 || fault() { exit }
+        line > 16 || fault() { exit }
         { if (line++ == 0) version = $2 }
         END { if (found) { value = $at; gsub(/[^ -~]/, "?", value); printf "%d\n%s\n%s\n", line, NF < at ? "short" : "there", substr(value, 1, 40) } }
         function above(size, top) { return length(size) > length(top) || (length(size) == length(top) && (size "") > (top "")) }
@@ -114,7 +114,7 @@ state_line_at_fault() { # FIELD
 
 # What was expected of a field of a state's line. The head has three fields, a voice line 282 and the queued samples.
 state_field() { # FIELD
-    local names=('a channel from 0 to 7' 'a frequency from 0 to 65535' 'a waveform from 0 to 5 (to 4 under V1 and V2)' 'a volume from 0 to 255'
+    local names=('a channel from 0 to 15' 'a frequency from 0 to 65535' 'a waveform from 0 to 5 (to 4 under V1 and V2)' 'a volume from 0 to 255'
         'a panpot from 0 to 255' 'a modulation type from 0 to 6' 'a modulation target from 0 to 7' 'a targeting mode, 0 or 1'
         'modulation parameter 1 from 0 to 65535' 'modulation parameter 2 from 0 to 65535'
         'a start address from 0 to 16777215' 'an end address from 0 to 16777215' 'a loop address from 0 to 16777215'
@@ -153,6 +153,7 @@ load_refusal() { # NUMBER [VALUE]
         # field 17 or 27 of the state, where it told the line; else line 16 of the log
         if [ -n "$state_line" ]; then echo "the state is refused (16) at $(state_field "$2")"; else load_refusal '16 ' "$2"; fi
         ;;
+    16,1) echo "the state is refused (16) at $(state_field 1)${old_state:+; $old_state}" ;;
     16,*) echo "the state is refused (16) at $(state_field "$2")" ;;
     *,17) echo "line ${1% } of the log behind the state is no line of a log (17)" ;;
     *,27) echo "line ${1% } of the log behind the state names a register above 2303, the last one (27)" ;;

@@ -19,14 +19,14 @@ shows_progress() { [ -t 2 ] && [ ! -t 3 ]; }
 saves() { [ "$crate" = s3w2_save ] || case " ${options[*]-} " in *' --save '*) ;; *) false ;; esac; }
 
 # Of what a program prints, the line that tells how it ended. States and what sqv4-make prints may hold any bytes, so they are looked at
-# from the front: a state has its head within its last 189,648 bytes, and a file begins with its name.
+# from the front: a state has its head within its last 313,757 bytes, and a file begins with its name.
 closing_line() {
     local seen=no
     ! saves || seen=state
     ! shows_progress || case $crate in s3w2_log | s3w2_save | s3w2_load) seen=yes ;; esac
     case $seen:$crate in
     yes:*) LC_ALL=C awk -v mode=lines -v shows=1 -v name="$command" -f "$root/bin/lib/progress.awk" ;;
-    state:*) tail -c 200000 | LC_ALL=C sed -n -e '/^S3W2,/{s/.*/state/p;q}' -e '$p' ;;
+    state:*) tail -c 320000 | LC_ALL=C sed -n -e '/^S3W2,/{s/.*/state/p;q}' -e '$p' ;;
     *:sqv4_make) { head -c 40 | LC_ALL=C sed -n -e '1s/^SQV4.*/file/' -e '1p'; cat > /dev/null; } ;;
     *) tail -c 300 | tail -n 1 ;;
     esac | LC_ALL=C tr -cd ' -~\n'
@@ -125,13 +125,14 @@ open_words() {
 }
 
 # The line of the state that was refused; any other words go to standard error.
-state_line='' kept_words=no
+state_line='' old_state='' kept_words=no
 take_words() {
     local line
     [ "$kept_words" = yes ] || return 0
     while IFS= read -r line <&10; do
         case $line in
         's3w2-load: line '*' of the state') state_line=${line#s3w2-load: line }; state_line=${state_line%% *} ;;
+        's3w2-load: a state of nine lines'*) old_state=${line#s3w2-load: } ;;
         *) printf '%s\n' "$line" >&2 ;;
         esac
     done

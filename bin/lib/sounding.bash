@@ -100,7 +100,7 @@ one_file() { # WORD..
 to_file() { local file=$1; shift; exec "$@" <&4 2>&1 > "$file" 3>&-; }
 to_three() { exec "$@" <&4 2>&1 >&3 3>&-; }
 
-# A file for each channel, in a folder, which is made where it is missing.
+# A file for each of the sixteen channels, in a folder, which is made where it is missing.
 channel_files() {
     local n
     [ ! -e "$target" ] || [ -d "$target" ] || cannot "$target is no folder"
@@ -108,13 +108,14 @@ channel_files() {
     one_log
     sound_run to_channels
     mkdir -p -- "$target" || cannot "the folder $target cannot be made"
-    for n in 0 1 2 3 4 5 6 7; do place "$spool/channel-$n.wav" "$target/channel-$n.wav"; done
+    for n in {0..15}; do place "$spool/channel-$n.wav" "$target/channel-$n.wav"; done
 }
 
 to_channels() {
     cd "$spool" || exit
     exec "$binary" --split <&4 2>&1 > /dev/null 3> channel-0.wav 4> channel-1.wav 5> channel-2.wav 6> channel-3.wav 7> channel-4.wav \
-        8> channel-5.wav 9> channel-6.wav 10> channel-7.wav
+        8> channel-5.wav 9> channel-6.wav 10> channel-7.wav 11> channel-8.wav 12> channel-9.wav 13> channel-10.wav 14> channel-11.wav \
+        15> channel-12.wav 16> channel-13.wav 17> channel-14.wav 18> channel-15.wav
 }
 
 # The picture of the levels.
