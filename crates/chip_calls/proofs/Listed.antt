@@ -28,7 +28,7 @@ use Rattle.s3w2.specs.Chips.{coreAt, coreQueues}
 use Rattle.s3w2.specs.Refusals.{acceptsChip, refusal, soundRefusal, clockRefusal}
 use Rattle.chip_lists.specs.Plays.{Playing, shownBy, stemsPlayed, clockPlayed, callPlayed, callsPlayed}
 use Rattle.s3w2.specs.Registers.{readRegisterCalled, peekRegisterAnswer}
-use Rattle.s3w2.specs.Sound.{silentTurns, coreFrames, clockCalled, clockStems}
+use Rattle.chip_sound.specs.Sound.{silentTurns, coreFrames, clockCalled, clockStems}
 use Rattle.call_lists.specs.Runs.{after}
 use Rattle.call_lists.specs.Calls.{Call, setVersion, writeRegister, readRegister, peekRegister, writePcmRam, clock}
 use Rattle.chip_calls.specs.Ties.{Machine, machine}

@@ -31,9 +31,9 @@ use Rattle.s3w2.specs.declared.Answer.the-variants.{Done, Sample, Ended, StemBu
 use Rattle.s3w2.specs.Answers.{unless, answered, called}
 use Rattle.s3w2.specs.Chips.{noCore, coreAt, withCoreAt, coreQueues}
 use Rattle.s3w2.specs.Refusals.{soundRefusal}
-use Rattle.s3w2.specs.Sound.{oneTick, oneTickEnds, generateSampleCalled, silentTurns, coreFrames, coreEnded, framed, framedEnded, clockCalled, clockStems}
-use Rattle.s3w2.specs.Mixing.{served, mixedSide, clearedTo, mixedAnswered, mixedCalled, mixedI32Called, mixedLeft, mixedRight, clockMixedCalled, clockMixedLeft, clockMixedRight}
-use Rattle.s3w2.proofs.Endings.{tick-ended}
+use Rattle.chip_sound.specs.Sound.{oneTick, oneTickEnds, generateSampleCalled, silentTurns, coreFrames, coreEnded, framed, framedEnded, clockCalled, clockStems}
+use Rattle.chip_sound.specs.Mixing.{served, mixedSide, clearedTo, mixedAnswered, mixedCalled, mixedI32Called, mixedLeft, mixedRight, clockMixedCalled, clockMixedLeft, clockMixedRight}
+use Rattle.chip_sound.proofs.Endings.{tick-ended}
 use Rattle.slots.specs.Slots.{Slot, emptySlot}
 use Rattle.slots.specs.Models.{slots, SlotPair}
 use Rattle.plain_chip.specs.Frames.{ModelTurns, noTurn}

@@ -9,8 +9,8 @@ use Rattle.s3w2.specs.Fresh.{setVersionCalled, resetCalled, resetRam, resetChan
 use Rattle.s3w2.specs.Registers.{writeRegisterCalled, writeRegisterBuffer, readRegisterCalled, peekRegisterAnswer}
 use Rattle.s3w2.specs.Channels.{writeChannelWavetableCalled, readChannelWavetableAnswer, writeChannelControlCalled, writeChannelControlBuffer, readChannelControlCalled, writeChannelPcmRegCalled, readChannelPcmRegAnswer, wavetableLengthAnswer, interpolatesAnswer}
 use Rattle.s3w2.specs.Ram.{writePcmRamCalled, writePcmRamRam, readPcmRamAnswer}
-use Rattle.s3w2.specs.Sound.{generateSampleCalled, clockCalled, clockStems}
-use Rattle.s3w2.specs.Mixing.{mixedCalled, mixedI32Called, mixedLeft, mixedRight, clockMixedCalled, clockMixedLeft, clockMixedRight}
+use Rattle.chip_sound.specs.Sound.{generateSampleCalled, clockCalled, clockStems}
+use Rattle.chip_sound.specs.Mixing.{mixedCalled, mixedI32Called, mixedLeft, mixedRight, clockMixedCalled, clockMixedLeft, clockMixedRight}
 use Rattle.session.specs.Heads.{writeHeadAnswer, writeHeadText, readHeadCalled}
 use Rattle.session.specs.Voices.{writeVoiceAnswer, writeVoiceText, readVoiceCalled, readVoiceQueues, readStoredVoiceCalled, readStoredVoiceQueues}
 use Rattle.s3w2.specs.declared.Called.{Called}

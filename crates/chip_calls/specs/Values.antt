@@ -13,7 +13,7 @@ use Rattle.s3w2.specs.declared.Chip.{Chip}
 use Rattle.s3w2.specs.Answers.{unless}
 use Rattle.s3w2.specs.Chips.{coreAt, coreQueues}
 use Rattle.s3w2.specs.Refusals.{soundRefusal, clockRefusal}
-use Rattle.s3w2.specs.Mixing.{clearedTo, served}
+use Rattle.chip_sound.specs.Mixing.{clearedTo, served}
 
 module _ (chip : Chip) (ram : List ℕ) (queues : List ℤ) where
   -- one tick of a voice of core k; a core that the version lacks is not ticked

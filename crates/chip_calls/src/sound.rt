@@ -11,7 +11,7 @@ pub fn generate_sample(chip: Chip, ram: &[u8], queues: &mut [i16], core: usize, 
     ensures code { λ r. ⌜ AsCode (machine chip (now (ram .entry)) (now (queues .entry))) (list.generateSample core ch) r (now (ram .entry))
         (now (queues .exit)) [] ⌝ }
 {
-    chip.generate_sample(ram, queues, core, ch)
+    chip_sound::generate_sample(chip, ram, queues, core, ch)
 }
 
 // As `Chip::clock`.
@@ -19,7 +19,7 @@ pub fn clock(chip: Chip, ram: &[u8], queues: &mut [i16], frames: usize, stems: &
     ensures code { λ r. ⌜ AsCode (machine chip (now (ram .entry)) (now (queues .entry))) (list.clock frames (now (stems .entry))) r
         (now (ram .entry)) (now (queues .exit)) (now (stems .exit) ∷ []) ⌝ }
 {
-    chip.clock(ram, queues, frames, stems)
+    chip_sound::clock(chip, ram, queues, frames, stems)
 }
 
 // As `Chip::clock_mixed`.
@@ -34,7 +34,7 @@ pub fn clock_mixed(
         (list.clockMixed (now (left .entry)) (now (right .entry))) r (now (ram .entry)) (now (queues .exit))
         (now (left .exit) ∷ now (right .exit) ∷ []) ⌝ }
 {
-    chip.clock_mixed(ram, queues, left, right)
+    chip_sound::clock_mixed(chip, ram, queues, left, right)
 }
 
 // As `Chip::clock_mixed_into`.
@@ -49,7 +49,7 @@ pub fn clock_mixed_into(
         (list.clockMixedInto (now (left .entry)) (now (right .entry))) r (now (ram .entry)) (now (queues .exit))
         (now (left .exit) ∷ now (right .exit) ∷ []) ⌝ }
 {
-    chip.clock_mixed_into(ram, queues, left, right)
+    chip_sound::clock_mixed_into(chip, ram, queues, left, right)
 }
 
 // As `Chip::clock_mixed_into_i32`.
@@ -64,5 +64,5 @@ pub fn clock_mixed_into_i32(
         (list.clockMixedIntoI32 (now (left .entry)) (now (right .entry))) r (now (ram .entry)) (now (queues .exit))
         (now (left .exit) ∷ now (right .exit) ∷ []) ⌝ }
 {
-    chip.clock_mixed_into_i32(ram, queues, left, right)
+    chip_sound::clock_mixed_into_i32(chip, ram, queues, left, right)
 }

@@ -37,12 +37,12 @@ use Rattle.s3w2.specs.Chips.{coreQueues, withCores}
 use Rattle.s3w2.specs.Fresh.{setVersionCalled}
 use Rattle.s3w2.specs.Ram.{writePcmRamCalled, writePcmRamRam}
 use Rattle.s3w2.specs.Registers.{writeRegisterCalled, writeRegisterBuffer, readRegisterCalled, peekRegisterAnswer}
-use Rattle.s3w2.specs.Sound.{silentTurns, coreFrames, framed, framedEnded, clockCalled}
+use Rattle.chip_sound.specs.Sound.{silentTurns, coreFrames, framed, framedEnded, clockCalled}
 use Rattle.chip_lists.specs.Plays.{Playing, registerPlayed, bytePlayed, shownBy, stemsPlayed, clockPlayed, versionPlayed, callPlayed}
 use Rattle.chip_lists.specs.Second.{secondCalled}
 use Rattle.s3w2.proofs.Longer.{ram-small, accepts-longer}
 use Rattle.s3w2.proofs.Refused.{nothing-amiss}
-use Rattle.s3w2.proofs.Seconds as seconds
+use Rattle.chip_sound.proofs.Seconds as seconds
 
 -- a call that is not turned away
 done-called : (r : Answer) (chip : Chip) (done : Called) → isDone r ≡ true → called r chip done ≡ done

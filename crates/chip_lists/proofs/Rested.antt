@@ -30,12 +30,12 @@ use Rattle.rest.specs.Rest.{rests}
 use Rattle.rest.proofs.Resting.{rest-frames, rest-ram, rest-version, rest-accepted}
 use Rattle.s3w2.specs.declared.Chip.{Chip}
 use Rattle.s3w2.specs.Chips.{coreAt}
-use Rattle.s3w2.specs.Sound.{silentTurns}
+use Rattle.chip_sound.specs.Sound.{silentTurns}
 use Rattle.chip_lists.specs.Plays.{Playing, playing, callPlayed, callsPlayed, allPlayed}
 use Rattle.chip_lists.specs.Second.{Lends, Leaves, secondCalled}
 use Rattle.s3w2.proofs.Fits.{core-accepts}
 use Rattle.chip_lists.proofs.Parts.{lower-long, upper-long}
-use Rattle.s3w2.proofs.Runs.{sets-all}
+use Rattle.chip_sound.proofs.Runs.{sets-all}
 use Rattle.chip_lists.proofs.Plays.{asPlaying, call-played}
 use Rattle.chip_lists.proofs.Ones.{lentFirst, playing-as}
 

@@ -22,9 +22,9 @@ use Rattle.frames.specs.Turning.{Turns, frames}
 use Rattle.frames.proofs.Asks.{asked, may-play, opened}
 use Rattle.frames.proofs.Counts.{zero-add}
 use Rattle.frames.proofs.Framing.{frames-turns}
-use Rattle.s3w2.specs.Sound.{silentTurns}
+use Rattle.chip_sound.specs.Sound.{silentTurns}
 use Rattle.chip_lists.specs.Second.{isShared, isClock, secondCalled, SecondLeaves}
-use Rattle.s3w2.proofs.Runs.{sets-all}
+use Rattle.chip_sound.proofs.Runs.{sets-all}
 
 -- ---- what `frames` plays of it
 module _ (kinds addresses : List ℕ) (stems : ℕ) (s : Listed) (one : length kinds ≡ 1) (at : length addresses ≡ 1) (with-value : length (s .values) ≡ 1) where

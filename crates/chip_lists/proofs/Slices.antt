@@ -22,10 +22,10 @@ use Rattle.s3w2.specs.Answers.{byteAnswered, unless, isDone, answered}
 use Rattle.s3w2.specs.Refusals.{soundRefusal}
 use Rattle.s3w2.specs.Chips.{coreAt, coreQueues}
 use Rattle.s3w2.specs.Registers.{readRegisterCalled, peekRegisterAnswer}
-use Rattle.s3w2.specs.Sound.{silentTurns, coreFrames}
+use Rattle.chip_sound.specs.Sound.{silentTurns, coreFrames}
 use Rattle.chip_lists.specs.Plays.{Playing, playing, registerPlayed, bytePlayed, shownBy, stemsPlayed, clockPlayed, versionPlayed, callPlayed, callsPlayed}
 use Rattle.chip_lists.proofs.Parts.{part-one, one-at}
-use Rattle.s3w2.proofs.Runs.{sets-all}
+use Rattle.chip_sound.proofs.Runs.{sets-all}
 
 -- ---- a call by its own numbers: its kind, its address and its value
 abbrev asked-for : Asked → ℕ → ℕ → ℕ → ℕ → Playing → Playing

@@ -25,7 +25,7 @@ use Rattle.s3w2.specs.Refusals.{acceptsChip, refusal, soundRefusal}
 use Rattle.s3w2.specs.Fresh.{setVersionCalled}
 use Rattle.s3w2.specs.Ram.{writePcmRamCalled, writePcmRamRam}
 use Rattle.s3w2.specs.Registers.{writeRegisterCalled, writeRegisterBuffer, readRegisterCalled, peekRegisterAnswer}
-use Rattle.s3w2.specs.Sound.{coreFrames, clockCalled}
+use Rattle.chip_sound.specs.Sound.{coreFrames, clockCalled}
 
 -- a chip, what is lent to it, and the frames that it has clocked
 pub record Playing : Type 0 where

@@ -26,7 +26,7 @@ use Rattle.s3w2.specs.declared.Chip.{Chip}
 use Rattle.s3w2.specs.Answers.{isDone}
 use Rattle.s3w2.specs.Chips.{coreAt}
 use Rattle.s3w2.specs.Refusals.{acceptsChip}
-use Rattle.s3w2.specs.Sound.{silentTurns}
+use Rattle.chip_sound.specs.Sound.{silentTurns}
 use Rattle.chip_lists.specs.Plays.{Playing, playRefusal, playCalled, playLeft}
 
 -- ---- a list

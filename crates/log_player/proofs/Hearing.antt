@@ -31,8 +31,8 @@ use Rattle.s3w2.specs.Answers.{isDone, unless, answered, byteAnswered}
 use Rattle.s3w2.specs.Refusals.{refusal, acceptsChip, soundRefusal, clockRefusal}
 use Rattle.s3w2.specs.Chips.{coreAt, coreQueues}
 use Rattle.s3w2.specs.Registers.{readRegisterCalled, peekRegisterAnswer}
-use Rattle.s3w2.specs.Sound.{silentTurns, coreFrames, framed, framedEnded, clockCalled}
-use Rattle.s3w2.specs.Mixing.{served, mixedSide, mixedAnswered, mixedLeft, mixedRight, mixedI32Called}
+use Rattle.chip_sound.specs.Sound.{silentTurns, coreFrames, framed, framedEnded, clockCalled}
+use Rattle.chip_sound.specs.Mixing.{served, mixedSide, mixedAnswered, mixedLeft, mixedRight, mixedI32Called}
 use Rattle.chip_lists.specs.Plays.{Playing, shownBy, clockPlayed, callPlayed}
 use Rattle.log.specs.declared.Line.the-variants.{Write, WriteRam, Read, Peek, Clock}
 use Rattle.log.specs.Texts.{frameLines, readBackLine, peakOf}

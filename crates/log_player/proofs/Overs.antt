@@ -23,11 +23,11 @@ use Rattle.sides.proofs.Added.{added-length}
 use Rattle.s3w2.specs.declared.Chip.{Chip}
 use Rattle.s3w2.specs.Answers.{isDone}
 use Rattle.s3w2.specs.Refusals.{refusal, soundRefusal}
-use Rattle.s3w2.specs.Sound.{coreFrames}
-use Rattle.s3w2.specs.Mixing.{clearedTo, served, mixedSide, mixedLeft, mixedRight, clockMixedLeft, clockMixedRight}
+use Rattle.chip_sound.specs.Sound.{coreFrames}
+use Rattle.chip_sound.specs.Mixing.{clearedTo, served, mixedSide, mixedLeft, mixedRight, clockMixedLeft, clockMixedRight}
 use Rattle.s3w2.proofs.Fits.{FitChip}
-use Rattle.s3w2.proofs.Runs.{sets-all}
-use Rattle.s3w2.proofs.Bounds.{PairFrame, pair-side}
+use Rattle.chip_sound.proofs.Runs.{sets-all}
+use Rattle.chip_sound.proofs.Bounds.{PairFrame, pair-side}
 use Rattle.log.specs.Texts.{pairLine, frameLines, peakOf}
 use Rattle.log_player.specs.declared.Player.{Player}
 use Rattle.log_player.specs.Applied.{leftSide, rightSide, clockedText, clockedPlayer, silent}

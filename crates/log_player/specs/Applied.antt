@@ -13,7 +13,7 @@ use Rattle.s3w2.specs.Fresh.{setVersionCalled}
 use Rattle.s3w2.specs.Ram.{writePcmRamCalled, writePcmRamRam}
 use Rattle.s3w2.specs.Registers.{writeRegisterCalled, writeRegisterBuffer, readRegisterCalled, peekRegisterAnswer}
 use Rattle.sides.specs.Sides.{wrapping}
-use Rattle.s3w2.specs.Mixing.{mixedI32Called, mixedLeft, mixedRight}
+use Rattle.chip_sound.specs.Mixing.{mixedI32Called, mixedLeft, mixedRight}
 use Rattle.log_player.specs.declared.Player.{Player}
 use Rattle.log_player.specs.Worlds.{World, world, withChip}
 

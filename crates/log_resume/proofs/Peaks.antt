@@ -16,7 +16,7 @@ use Rattle.num.specs.Lists.{part}
 use Rattle.num.proofs.Integers.{fit}
 use Rattle.registers.specs.PlainQueue.{FitEntries}
 use Rattle.frames.proofs.Parts.{part-length}
-use Rattle.s3w2.specs.Mixing.{clockMixedLeft, clockMixedRight}
+use Rattle.chip_sound.specs.Mixing.{clockMixedLeft, clockMixedRight}
 use Rattle.s3w2.specs.Chips.{coreAt, coreQueues}
 use Rattle.s3w2.proofs.Fits.{FitCore, FitChip}
 use Rattle.log.specs.declared.Line.{Line}

@@ -1,7 +1,7 @@
 -- What the calls' definitions say where a test decides. Assumes nothing.
 use mathlib.Core.Path.{_≡_, refl, sym, ap, ap₂, _∙_}
 use mathlib.Core.Bool.{Bool, true, false, cond}
-use Prim.Native.Nat.{ℕ, _+_, _*_, _/_, _%_, _≤_, _<_}
+use Prim.Native.Nat.{ℕ, min, _+_, _*_, _/_, _%_, _≤_, _<_}
 use native.Mathlib.Omega.{arith}
 use lib.Dec.{eqb, ltb}
 use borrow.Author.Tests.{eqb-true, eqb-false, eq-eqb, ne-eqb, lt-ltb, le-ltb}
@@ -15,7 +15,7 @@ use Rattle.s3w2.specs.declared.Answer.{Answer}
 use Rattle.s3w2.specs.declared.Answer.the-variants.{Byte}
 use Rattle.s3w2.specs.Answers.{isDone, answered, called, told}
 use Rattle.s3w2.specs.Refusals.{refusal, acceptsChip, queuesRefusal}
-use Rattle.s3w2.specs.Chips.{withCoreAt, withCores}
+use Rattle.s3w2.specs.Chips.{coreAt, withCoreAt, withCores}
 use Rattle.s3w2.proofs.Refused.{goes-called, goes-told}
 
 -- ---- a call that goes on has all that it takes
@@ -66,6 +66,10 @@ module _ {A : Type 0} (a b : ℕ) (x none : A) where
 -- ---- one of the two cores, or none
 pub one-core : {A : Type 0} (k : ℕ) (x none u : A) → k ≤ 1 → u ≡ x → u ≡ cond (ltb k numCores) x none
 one-core k x none u h e = e ∙ one-of k numCores x none (omega arith)
+
+-- the core that the code takes out
+pub at-core : (chip : Chip) (k : ℕ) (v : Core) → k ≤ 1 → v ≡ coreAt chip (min k 1) → v ≡ coreAt chip k
+at-core chip k v h e = let m : min k 1 ≡ k = omega arith in e ∙ ap (coreAt chip) m
 
 -- a call that goes on; `r` is the refusal as the code found it
 module _ (r wanted : Answer) (e : r ≡ wanted) (done : isDone r ≡ true) (k : ℕ) where

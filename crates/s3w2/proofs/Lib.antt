@@ -5,15 +5,4 @@ pub mod Queues
 pub mod Ranges
 pub mod Kept
 pub mod Longer
-pub mod Runs
-pub mod Seconds
-pub mod Chunks
-pub mod Pairs
-pub mod Loops
-pub mod Mixes
-pub mod Clocks
-pub mod Endings
-pub mod Sounds
-pub mod KeptSound
-pub mod Bounds
 pub mod Marked

@@ -5,7 +5,4 @@ pub mod Fresh
 pub mod Ram
 pub mod Channels
 pub mod Registers
-pub mod Sound
-pub mod Both
-pub mod Mixing
 pub mod Marked

@@ -24,7 +24,7 @@ impl Chip {
             return self.answers(Answer::Done);
         }
         let version = self.version;
-        let voices = self.cores[core];
+        let voices = self.core_at(core);
         let from = core * QUEUE_BUFFER;
         let to = from + QUEUE_BUFFER;
         let next = voices.write_register(version, &mut queues[from..to], address, value);
@@ -43,7 +43,7 @@ impl Chip {
             return self.answers(Answer::Byte(0));
         }
         let version = self.version;
-        let voices = self.cores[core];
+        let voices = self.core_at(core);
         let byte = voices.peek_register(version, address);
         self.with_core(
             core,
@@ -64,7 +64,7 @@ impl Chip {
             return Answer::Byte(0);
         }
         let version = self.version;
-        let voices = self.cores[core];
+        let voices = self.core_at(core);
         Answer::Byte(voices.peek_register(version, address))
     }
 }

@@ -28,7 +28,7 @@ impl Chip {
         if LAST_CORE < core {
             return self.answers(Answer::Done);
         }
-        let voices = self.cores[core];
+        let voices = self.core_at(core);
         let at = ch * 256 + (offset as usize);
         self.with_core(core, voices.write_wavetable(at, value), Answer::Done)
     }
@@ -47,7 +47,7 @@ impl Chip {
         if LAST_CORE < core {
             return Answer::Byte(0);
         }
-        let voices = self.cores[core];
+        let voices = self.core_at(core);
         Answer::Byte(voices.read_wavetable(ch * 256 + (offset as usize)))
     }
 
@@ -71,7 +71,7 @@ impl Chip {
             return self.answers(Answer::Done);
         }
         let version = self.version;
-        let voices = self.cores[core];
+        let voices = self.core_at(core);
         let from = core * QUEUE_BUFFER;
         let to = from + QUEUE_BUFFER;
         let next = voices.write_control(version, &mut queues[from..to], ch, offset, value);
@@ -90,7 +90,7 @@ impl Chip {
             return self.answers(Answer::Byte(0));
         }
         let version = self.version;
-        let voices = self.cores[core];
+        let voices = self.core_at(core);
         let byte = voices.read_control(version, ch, offset);
         self.with_core(core, voices.after_read(ch, offset), Answer::Byte(byte))
     }
@@ -106,7 +106,7 @@ impl Chip {
         if LAST_CORE < core {
             return self.answers(Answer::Done);
         }
-        let voices = self.cores[core];
+        let voices = self.core_at(core);
         self.with_core(core, voices.write_pcm_reg(ch, offset, value), Answer::Done)
     }
 
@@ -121,7 +121,7 @@ impl Chip {
         if LAST_CORE < core {
             return Answer::Byte(0);
         }
-        let voices = self.cores[core];
+        let voices = self.core_at(core);
         Answer::Byte(voices.read_pcm_reg(ch, offset))
     }
 
@@ -137,7 +137,7 @@ impl Chip {
             return Answer::Count(0);
         }
         let version = self.version;
-        let voices = self.cores[core];
+        let voices = self.core_at(core);
         Answer::Count(voices.wavetable_length(version, ch))
     }
 
@@ -153,7 +153,7 @@ impl Chip {
             return Answer::Flag(false);
         }
         let version = self.version;
-        let voices = self.cores[core];
+        let voices = self.core_at(core);
         Answer::Flag(voices.interpolates(version, ch))
     }
 }

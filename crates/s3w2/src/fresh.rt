@@ -1,11 +1,11 @@
 // Chips made, reset, and under another version.
 ghost use mathlib.Core.Path.{_≡_};
-ghost use Prim.Native.Nat.{_<_};
+ghost use Prim.Native.Nat.{_<_, min};
 ghost use lib.ListN.{length};
 ghost use Rattle.cores.specs.Sizes.{numCores};
 ghost use Rattle.version.specs.declared.SguVersion.the-variants.{«V3_1»};
 ghost use Rattle.s3w2.specs.Fresh.{madeCalled, madeRam, setVersionCalled, resetCalled, resetRam, resetChannelCalled};
-ghost use Rattle.s3w2.specs.Chips.{withCoreAt, withCores, zeroed};
+ghost use Rattle.s3w2.specs.Chips.{coreAt, withCoreAt, withCores, zeroed};
 ghost use Rattle.s3w2.specs.Answers.{answered};
 use crate::Answer;
 use crate::Called;
@@ -26,10 +26,19 @@ fn zero(ram: &mut [u8])
 }
 
 impl Chip {
-    pub(crate) fn answers(self, answer: Answer) -> Called
+    // What a call leaves and answers.
+    pub fn answers(self, answer: Answer) -> Called
         ensures { λ r. ⌜ r ≡ answered self answer ⌝ }
     {
         Called { chip: self, answer }
+    }
+
+    // Core 0, or core 1 for any other number.
+    pub fn core_at(self, k: usize) -> Core
+        ensures { λ r. ⌜ r ≡ coreAt self (min k 1) ⌝ }
+    {
+        let cores = self.cores;
+        cores[num::least(k, LAST_CORE)]
     }
 
     // The chip with another core 0 or 1.
@@ -42,7 +51,7 @@ impl Chip {
     }
 
     // The chip with other cores.
-    pub(crate) fn with_cores(self, first: Core, second: Core) -> Chip
+    pub fn with_cores(self, first: Core, second: Core) -> Chip
         ensures { λ r. ⌜ r ≡ withCores self first second ⌝ }
     {
         let version = self.version;
@@ -92,8 +101,8 @@ impl Chip {
         if !is_done(refusal) {
             return self.answers(refusal);
         }
-        let first = self.cores[0];
-        let second = self.cores[1];
+        let first = self.core_at(0);
+        let second = self.core_at(1);
         let chip = Chip {
             version,
             cores: [first.set_version(version), second.set_version(version)],
@@ -126,7 +135,7 @@ impl Chip {
         if LAST_CORE < core {
             return self.answers(Answer::Done);
         }
-        let voices = self.cores[core];
+        let voices = self.core_at(core);
         self.with_core(core, voices.reset_channel(ch), Answer::Done)
     }
 }

@@ -1,13 +1,9 @@
 // The chip: two cores of eight voices over one lent RAM and one lent queue buffer, and its calls with their refusals.
 mod addressed;
-mod both;
 mod channels;
-mod ended;
 mod fresh;
-mod mixing;
 mod ram;
 mod refusals;
-mod sound;
 
 pub use refusals::is_done;
 use version::SguVersion;
@@ -37,10 +33,4 @@ pub enum Answer {
 pub struct Called {
     pub chip: Chip,
     pub answer: Answer,
-}
-
-// Which voices of each core are active.
-pub(crate) struct Flags {
-    pub first: [bool; 8],
-    pub second: [bool; 8],
 }

@@ -22,8 +22,8 @@ impl Chip {
             return self.answers(Answer::Done);
         }
         ram[at] = value;
-        let first = self.cores[0];
-        let second = self.cores[1];
+        let first = self.core_at(0);
+        let second = self.core_at(1);
         let chip = self.with_cores(
             first.after_ram_write(address),
             second.after_ram_write(address),

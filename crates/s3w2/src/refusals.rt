@@ -65,11 +65,11 @@ impl Chip {
         ensures { λ r. ⌜ r ≡ acceptsChip self length ⌝ }
     {
         let version = self.version;
-        let first = self.cores[0];
+        let first = self.core_at(0);
         if !first.accepts(version, length) {
             return false;
         }
-        let second = self.cores[1];
+        let second = self.core_at(1);
         second.accepts(version, length)
     }
 
@@ -122,7 +122,7 @@ impl Chip {
     }
 
     // A call that is lent stems too.
-    pub(crate) fn refusal_of_clock(
+    pub fn refusal_of_clock(
         self,
         length: usize,
         queues: usize,

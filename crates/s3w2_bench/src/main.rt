@@ -127,7 +127,7 @@ impl Summed {
         right: &mut [i16],
     ) -> Summed {
         let chip = self.chip;
-        let called = chip.clock_mixed_into(ram, queues, &mut *left, &mut *right);
+        let called = chip_sound::clock_mixed_into(chip, ram, queues, &mut *left, &mut *right);
         let next = called.chip;
         Summed {
             chip: next,

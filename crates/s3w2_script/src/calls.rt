@@ -83,7 +83,7 @@ fn called_with_queues(
     match fields::letter(line) {
         b'W' => chip.write_register(queues, core, fields::word(line, 1), x),
         b'C' => chip.write_channel_control(queues, core, ch, x, fields::byte(line, 3)),
-        b'G' => chip.generate_sample(ram, queues, core, ch),
+        b'G' => chip_sound::generate_sample(chip, ram, queues, core, ch),
         b'E' | b'F' => setting::set(chip, core, line, queues),
         _ => called(chip, core, line, ram),
     }

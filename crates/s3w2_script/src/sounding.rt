@@ -55,9 +55,9 @@ fn clocked(
     right: &mut [i16],
 ) -> Called {
     match fields::letter(line) {
-        b'S' => chip.clock(ram, queues, fields::size(line, 1), left),
-        b'X' => chip.clock_mixed(ram, queues, left, right),
-        _ => chip.clock_mixed_into(ram, queues, left, right),
+        b'S' => chip_sound::clock(chip, ram, queues, fields::size(line, 1), left),
+        b'X' => chip_sound::clock_mixed(chip, ram, queues, left, right),
+        _ => chip_sound::clock_mixed_into(chip, ram, queues, left, right),
     }
 }
 
@@ -87,7 +87,13 @@ pub(crate) fn wide_sides(chip: Chip, line: &[u64], ram: &[u8], queues: &mut [i16
     let r = num::least(fields::size(line, 2), SIDE);
     let seed = fields::fill_wide(&mut left, l, fields::long(line, 3));
     fields::fill_wide(&mut right, r, seed);
-    let called = chip.clock_mixed_into_i32(ram, queues, &mut left[..l], &mut right[..r]);
+    let called = chip_sound::clock_mixed_into_i32(
+        chip,
+        ram,
+        queues,
+        &mut left[..l],
+        &mut right[..r],
+    );
     WideSound {
         called,
         left,

@@ -23,9 +23,9 @@ use Rattle.s3w2.specs.declared.Answer.the-variants.{Done}
 use Rattle.s3w2.specs.Answers.{unless, answered, called}
 use Rattle.s3w2.specs.Chips.{coreAt, withCores, coreQueues}
 use Rattle.s3w2.specs.Refusals.{soundRefusal}
-use Rattle.s3w2.specs.Sound.{silentTurns, coreFrames, framed}
-use Rattle.s3w2.specs.Mixing.{served, mixedSide, mixedAnswered, mixedLeft, mixedRight, mixedI32Called}
-use Rattle.s3w2.proofs.Chunks.{more-core, more-stems}
+use Rattle.chip_sound.specs.Sound.{silentTurns, coreFrames, framed}
+use Rattle.chip_sound.specs.Mixing.{served, mixedSide, mixedAnswered, mixedLeft, mixedRight, mixedI32Called}
+use Rattle.chip_sound.proofs.Chunks.{more-core, more-stems}
 use Rattle.log.specs.declared.Line.{Line}
 use Rattle.log.specs.declared.Line.the-variants.{Clock}
 use Rattle.log.specs.Lines.{isBad}

@@ -1,9 +1,11 @@
 use borrow.Author.Needs.{needs}
-use mathlib.Core.Path.{sym, _∙_}
+use mathlib.Core.Path.{ap, sym, _∙_}
 use borrow.Author.Tests.{not-true, not-false}
+use Rattle.voices.specs.declared.Core.{Core}
+use Rattle.voices.specs.Core.{resetChannelAt}
 use Rattle.s3w2.specs.Fresh.{resetChannelCalled}
 use Rattle.s3w2.proofs.Refused.{away}
-use Rattle.s3w2.proofs.Cases.{changes-none, changes}
+use Rattle.s3w2.proofs.Cases.{changes-none, changes, at-core}
 use Rattle.s3w2.proofs.Chip.reset_channel.Statement.{statement}
 use Rattle.s3w2.proofs.Chip.reset_channel.Tie as tie
 
@@ -30,13 +32,10 @@ unfolding resetChannelCalled
 returns-2 c =
     let b = c .before .before in
     let a = c .before .before .before .before .before .args in
-    changes-none (b .before .before .refusal .result) _ (b .before .before .refusal .ensures) (sym (b .before .is-done .ensures) ∙ not-false _ (b .if1 .left)) (a .core) (a .t1) _ _ _ (c .before .if2 .taken) (c .answers2 .ensures)
+    changes-none (b .before .before .refusal .result) _ (b .before .before .refusal .ensures) (sym (b .before .is-done .ensures) ∙ not-false _ (b .if1 .left)) (a .core) (a .self) _ _ _ (c .before .if2 .taken) (c .answers2 .ensures)
 
-mul-voices : tie.Need-mul-voices
-mul-voices c = search needs
-
-element-copy-out-voices : tie.Need-element-copy-out-voices
-element-copy-out-voices c = search needs
+core-at-requires : tie.Need-core-at-requires
+core-at-requires c κs = search needs
 
 reset-channel-requires : tie.Need-reset-channel-requires
 reset-channel-requires c κs = search needs
@@ -49,7 +48,7 @@ unfolding resetChannelCalled
 returns-3 c =
     let b = c .before .before .before .before in
     let a = c .before .before .before .before .before .before .before .args in
-    changes (b .before .before .refusal .result) _ (b .before .before .refusal .ensures) (sym (b .before .is-done .ensures) ∙ not-false _ (b .if1 .left)) (a .core) (a .t1) _ _ _ _ (c .before .before .before .if2 .left) (c .with-core .ensures) (c .before .reset-channel .ensures)
+    changes (b .before .before .refusal .result) _ (b .before .before .refusal .ensures) (sym (b .before .is-done .ensures) ∙ not-false _ (b .if1 .left)) (a .core) (a .self) _ _ _ _ (c .before .before .before .if2 .left) (c .with-core .ensures) (c .before .reset-channel .ensures ∙ ap (λ (v : Core). resetChannelAt v (a .ch)) (at-core (a .self) (a .core) _ (c .before .before .before .if2 .left) (c .before .before .core-at .ensures)))
 
 pub reset-channel-spec : {M : Type 1} → statement M
 reset-channel-spec =
@@ -61,8 +60,7 @@ reset-channel-spec =
     returns
     answers-requires-2
     returns-2
-    mul-voices
-    element-copy-out-voices
+    core-at-requires
     reset-channel-requires
     with-core-requires
     returns-3)

@@ -1,8 +1,9 @@
 use borrow.Author.Needs.{needs}
-use mathlib.Core.Path.{sym, ap₂, _∙_}
+use mathlib.Core.Path.{sym, ap, ap₂, _∙_}
 use mathlib.Core.List.{[], _∷_}
 use borrow.Author.Tests.{not-true, not-false}
 use Rattle.voices.specs.declared.Core.{Core}
+use Rattle.voices.specs.Core.{setCoreVersion}
 use Rattle.s3w2.specs.declared.Answer.the-variants.{Done}
 use Rattle.s3w2.specs.Answers.{answered}
 use Rattle.s3w2.specs.Fresh.{setVersionCalled}
@@ -25,11 +26,11 @@ returns c =
     let b = c .before in
     c .answers .ensures ∙ away (b .before .before .refusal .result) _ (b .before .before .refusal .ensures) _ _ (sym (b .before .is-done .ensures) ∙ not-true _ (b .if1 .taken))
 
-element-copy-out-first : tie.Need-element-copy-out-first
-element-copy-out-first c = search needs
+core-at-requires : tie.Need-core-at-requires
+core-at-requires c κs = search needs
 
-element-copy-out-second : tie.Need-element-copy-out-second
-element-copy-out-second c = search needs
+core-at-requires-2 : tie.Need-core-at-requires-2
+core-at-requires-2 c κs = search needs
 
 set-version-requires : tie.Need-set-version-requires
 set-version-requires c κs = search needs
@@ -46,7 +47,7 @@ returns-2 c =
     let b = c .before .before .before .before .before in
     let a = c .before .before .before .before .before .before .before .before .args in
     goes-called (b .before .before .refusal .result) _ (b .before .before .refusal .ensures) _ _ _ (sym (b .before .is-done .ensures) ∙ not-false _ (b .if1 .left))
-    (c .answers2 .ensures ∙ ap₂ (λ (x y : Core). answered (record { version = a .version; cores = x ∷ y ∷ [] }) Done) (c .before .before .set-version .ensures) (c .before .set-version2 .ensures))
+    (c .answers2 .ensures ∙ ap₂ (λ (x y : Core). answered (record { version = a .version; cores = x ∷ y ∷ [] }) Done) (c .before .before .set-version .ensures ∙ ap (λ (v : Core). setCoreVersion v (a .version)) (c .before .before .before .before .core-at .ensures)) (c .before .set-version2 .ensures ∙ ap (λ (v : Core). setCoreVersion v (a .version)) (c .before .before .before .core-at2 .ensures)))
 
 pub set-version-spec : {M : Type 1} → statement M
 set-version-spec =
@@ -56,8 +57,8 @@ set-version-spec =
     is-done-requires
     answers-requires
     returns
-    element-copy-out-first
-    element-copy-out-second
+    core-at-requires
+    core-at-requires-2
     set-version-requires
     set-version-requires-2
     answers-requires-2

@@ -1,16 +1,19 @@
 use borrow.Author.Needs.{needs}
 use mathlib.Core.Path.{sym, ap, _∙_}
+use Prim.Native.Nat.{_+_, _*_}
 use native.Mathlib.Omega.{arith}
 use borrow.Author.Tests.{not-true, not-false}
 use Rattle.sizes.specs.Sizes.{numChannels}
 use Rattle.cores.specs.Sizes.{numCores}
+use Rattle.voices.specs.declared.Core.{Core}
+use Rattle.voices.specs.Writes.{writeWavetable}
 use Rattle.s3w2.specs.declared.Chip.{Chip}
 use Rattle.s3w2.specs.declared.Answer.the-variants.{Done}
 use Rattle.s3w2.specs.Answers.{answered}
 use Rattle.s3w2.specs.Chips.{withCoreAt}
 use Rattle.s3w2.specs.Channels.{writeChannelWavetableCalled}
 use Rattle.s3w2.proofs.Refused.{away, goes-called}
-use Rattle.s3w2.proofs.Cases.{none-of, one-of, one-core}
+use Rattle.s3w2.proofs.Cases.{none-of, one-of, one-core, at-core}
 use Rattle.s3w2.proofs.Chip.write_channel_wavetable.Statement.{statement}
 use Rattle.s3w2.proofs.Chip.write_channel_wavetable.Tie as tie
 
@@ -38,7 +41,7 @@ returns-2 c =
     let b = c .before .before in
     let a = c .before .before .before .before .before .args in
     goes-called (b .before .before .refusal .result) _ (b .before .before .refusal .ensures) _ _ _ (sym (b .before .is-done .ensures) ∙ not-false _ (b .if1 .left))
-    (c .answers2 .ensures ∙ ap (λ (x : Chip). answered x Done) (none-of (a .ch) numChannels _ (a .t1) (c .before .if2 .taken)))
+    (c .answers2 .ensures ∙ ap (λ (x : Chip). answered x Done) (none-of (a .ch) numChannels _ (a .self) (c .before .if2 .taken)))
 
 answers-requires-3 : tie.Need-answers-requires-3
 answers-requires-3 c κs = search needs
@@ -49,13 +52,10 @@ returns-3 c =
     let b = c .before .before .before in
     let a = c .before .before .before .before .before .before .args in
     goes-called (b .before .before .refusal .result) _ (b .before .before .refusal .ensures) _ _ _ (sym (b .before .is-done .ensures) ∙ not-false _ (b .if1 .left))
-    (c .answers3 .ensures ∙ ap (λ (x : Chip). answered x Done) (none-of (a .core) numCores _ (a .t1) (c .before .if3 .taken) ∙ one-of (a .ch) numChannels _ (a .t1) (omega (arith, c .before .before .if2 .left))))
+    (c .answers3 .ensures ∙ ap (λ (x : Chip). answered x Done) (none-of (a .core) numCores _ (a .self) (c .before .if3 .taken) ∙ one-of (a .ch) numChannels _ (a .self) (omega (arith, c .before .before .if2 .left))))
 
-mul-voices : tie.Need-mul-voices
-mul-voices c = search needs
-
-element-copy-out-voices : tie.Need-element-copy-out-voices
-element-copy-out-voices c = search needs
+core-at-requires : tie.Need-core-at-requires
+core-at-requires c κs = search needs
 
 mul-at : tie.Need-mul-at
 mul-at c = search needs
@@ -75,7 +75,7 @@ returns-4 c =
     let b = c .before .before .before .before .before in
     let a = c .before .before .before .before .before .before .before .before .args in
     goes-called (b .before .before .refusal .result) _ (b .before .before .refusal .ensures) _ _ _ (sym (b .before .is-done .ensures) ∙ not-false _ (b .if1 .left))
-    (c .with-core .ensures ∙ ap (λ (x : Chip). answered x Done) (one-core (a .core) _ (a .t1) _ (c .before .before .before .if3 .left) (ap (withCoreAt (a .t1) (a .core)) (c .before .write-wavetable .ensures)) ∙ one-of (a .ch) numChannels _ (a .t1) (omega (arith, c .before .before .before .before .if2 .left))))
+    (c .with-core .ensures ∙ ap (λ (x : Chip). answered x Done) (one-core (a .core) _ (a .self) _ (c .before .before .before .if3 .left) (ap (withCoreAt (a .self) (a .core)) (c .before .write-wavetable .ensures ∙ ap (λ (v : Core). writeWavetable v (a .ch * 256 + a .offset) (a .value)) (at-core (a .self) (a .core) _ (c .before .before .before .if3 .left) (c .before .before .core-at .ensures)))) ∙ one-of (a .ch) numChannels _ (a .self) (omega (arith, c .before .before .before .before .if2 .left))))
 
 pub write-channel-wavetable-spec : {M : Type 1} → statement M
 write-channel-wavetable-spec =
@@ -89,8 +89,7 @@ write-channel-wavetable-spec =
     returns-2
     answers-requires-3
     returns-3
-    mul-voices
-    element-copy-out-voices
+    core-at-requires
     mul-at
     add-at
     write-wavetable-requires

@@ -2,6 +2,8 @@ use borrow.Author.Needs.{needs}
 use mathlib.Core.Path.{sym, ap, _∙_}
 use borrow.Author.Tests.{not-true, not-false}
 use lib.Seq.{set-out}
+use Rattle.voices.specs.declared.Core.{Core}
+use Rattle.voices.specs.Writes.{afterRamWrite}
 use Rattle.s3w2.specs.declared.Chip.{Chip}
 use Rattle.s3w2.specs.declared.Answer.the-variants.{Done}
 use Rattle.s3w2.specs.Answers.{answered}
@@ -34,18 +36,18 @@ unfolding writePcmRamCalled writePcmRamRam
 returns-2 c =
     let b = c .before .before in
     let a = c .before .before .before .before .before .before .args in (
-      goes-called (b .before .before .refusal-with-ram .result) _ (b .before .before .refusal-with-ram .ensures) _ _ _ (sym (b .before .is-done .ensures) ∙ not-false _ (b .if1 .left)) (c .answers2 .ensures ∙ ap (λ (x : Chip). answered x Done) (none-of _ _ _ (a .t1) (c .before .if2 .taken))),
+      goes-called (b .before .before .refusal-with-ram .result) _ (b .before .before .refusal-with-ram .ensures) _ _ _ (sym (b .before .is-done .ensures) ∙ not-false _ (b .if1 .left)) (c .answers2 .ensures ∙ ap (λ (x : Chip). answered x Done) (none-of _ _ _ (a .self) (c .before .if2 .taken))),
       sym (set-out (a .ram .now) (a .address) (a .value) (c .before .if2 .taken)) ∙ goes-on (b .before .before .refusal-with-ram .result) _ (b .before .before .refusal-with-ram .ensures) _ _ (sym (b .before .is-done .ensures) ∙ not-false _ (b .if1 .left)),
     )
 
 slice-write-ram : tie.Need-slice-write-ram
 slice-write-ram c = search needs
 
-element-copy-out-first : tie.Need-element-copy-out-first
-element-copy-out-first c = search needs
+core-at-requires : tie.Need-core-at-requires
+core-at-requires c κs = search needs
 
-element-copy-out-second : tie.Need-element-copy-out-second
-element-copy-out-second c = search needs
+core-at-requires-2 : tie.Need-core-at-requires-2
+core-at-requires-2 c κs = search needs
 
 after-ram-write-requires : tie.Need-after-ram-write-requires
 after-ram-write-requires c κs = search needs
@@ -68,7 +70,7 @@ returns-3 c =
     let b = c .before .before .before .before .before .before .before in
     let a = c .before .before .before .before .before .before .before .before .before .before .before .args in (
       goes-called (b .before .before .refusal-with-ram .result) _ (b .before .before .refusal-with-ram .ensures) _ _ _ (sym (b .before .is-done .ensures) ∙ not-false _ (b .if1 .left))
-          (c .answers3 .ensures ∙ ap (λ (x : Chip). answered x Done) (c .before .with-cores .ensures ∙ cores-are (a .t1) _ _ _ _ (c .before .before .before .after-ram-write .ensures) (c .before .before .after-ram-write2 .ensures) ∙ one-of _ _ _ (a .t1) (c .before .before .before .before .before .before .if2 .left))),
+          (c .answers3 .ensures ∙ ap (λ (x : Chip). answered x Done) (c .before .with-cores .ensures ∙ cores-are (a .self) _ _ _ _ (c .before .before .before .after-ram-write .ensures ∙ ap (λ (v : Core). afterRamWrite v (a .address)) (c .before .before .before .before .before .core-at .ensures)) (c .before .before .after-ram-write2 .ensures ∙ ap (λ (v : Core). afterRamWrite v (a .address)) (c .before .before .before .before .core-at2 .ensures)) ∙ one-of _ _ _ (a .self) (c .before .before .before .before .before .before .if2 .left))),
       goes-on (b .before .before .refusal-with-ram .result) _ (b .before .before .refusal-with-ram .ensures) _ _ (sym (b .before .is-done .ensures) ∙ not-false _ (b .if1 .left)),
     )
 
@@ -83,8 +85,8 @@ write-pcm-ram-spec =
     answers-requires-2
     returns-2
     slice-write-ram
-    element-copy-out-first
-    element-copy-out-second
+    core-at-requires
+    core-at-requires-2
     after-ram-write-requires
     after-ram-write-requires-2
     with-cores-requires

@@ -1,0 +1,11 @@
+pub mod Runs
+pub mod Seconds
+pub mod Chunks
+pub mod Pairs
+pub mod Loops
+pub mod Mixes
+pub mod Clocks
+pub mod Endings
+pub mod Sounds
+pub mod KeptSound
+pub mod Bounds
