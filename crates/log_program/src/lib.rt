@@ -5,7 +5,6 @@ mod playing;
 mod saving;
 
 use cores::CHIP_QUEUES;
-use log_player::Player;
 
 // A program over a log: whether it reads a state before the log, with voice lines as stored ones or as any, and whether it
 // prints the state in which the log leaves the player, and not the peaks.
@@ -15,20 +14,20 @@ pub(crate) struct Program {
     pub saves: bool,
 }
 
-// A run of a program: the bytes of the input buffer from `from` to before `filled` are not played yet, and begin with line
-// `number`.
-pub(crate) struct Run {
-    pub player: Player,
+// Where a run stands: the bytes of the input buffer from `from` to before `filled` are not played yet, and begin with line
+// `number`. `going` says that it goes on, `whole` that the input has come to its end.
+pub(crate) struct Place {
     pub from: usize,
     pub filled: usize,
     pub number: u64,
     pub going: bool,
+    pub whole: bool,
 }
 
 fn with_buffers(program: Program, ram: &mut [u8], queues: &mut [i16]) {
     let mut input = io::large_buffer();
     // No multiple of 4,096 bytes: the two players on its two sides are copied to each other, which is slow at such a distance.
-    let mut text = [0u8; 67584];
+    let mut text = [0u8; 133120];
     playing::play(program, &mut input, &mut text, ram, queues);
 }
 

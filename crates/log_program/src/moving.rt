@@ -2,6 +2,7 @@
 use crate::Program;
 pub(crate) use program::Input;
 use program::say;
+use session::LineAnswer;
 
 pub(crate) fn complain(program: Program, reason: &[u8]) {
     if program.loads {
@@ -21,6 +22,12 @@ pub(crate) fn written(program: Program, text: &[u8], end: usize) -> bool {
     }
     complain(program, b"the output cannot be written\n");
     false
+}
+
+// Writes why a line of a state was refused.
+pub(crate) fn write_refusal(program: Program, answer: LineAnswer, text: &mut [u8]) {
+    let end = log_state::put_refusal(answer, &mut *text, 0);
+    written(program, text, end);
 }
 
 // Reads behind the first `kept` bytes: how many bytes there are then. A buffer without room ends the input.

@@ -2,18 +2,21 @@ use borrow.Author.Needs.{needs}
 use mathlib.Core.Path.{_≡_, refl}
 use native.Mathlib.Omega.{arith}
 use lib.ListN.{length}
-use Rattle.log_program.proofs.loading.load_lines.Statement.{statement}
-use Rattle.log_program.proofs.loading.load_lines.Tie as tie
+use Rattle.log_program.proofs.loading.find.Statement.{statement}
+use Rattle.log_program.proofs.loading.find.Tie as tie
 
 abbrev Inv-loop : tie.InvT-loop
-Inv-loop input₀ text₀ ram queues₀ load₀ turns₀ input text queues load turns =
-    (length input ≡ length input₀) × (length text ≡ length text₀) × (length queues ≡ length queues₀)
+Inv-loop program k input₀ line₀ turns₀ input line turns =
+    length input ≡ length input₀
 
 abbrev μ-loop : tie.MeasureT-loop
-μ-loop input₀ text₀ ram queues₀ load₀ turns₀ input text queues load turns = turns
+μ-loop program k input₀ line₀ turns₀ input line turns = turns
+
+at-requires : tie.Need-at-requires Inv-loop μ-loop
+at-requires c κs = search needs
 
 loop-holds : tie.Need-loop-holds Inv-loop μ-loop
-loop-holds c = (refl, refl, refl)
+loop-holds c = refl
 
 look-requires : tie.Need-look-requires Inv-loop μ-loop
 look-requires c κs = search needs
@@ -36,21 +39,16 @@ loop-again-2 c = search needs
 same-length : tie.Need-same-length Inv-loop μ-loop
 same-length c = search needs
 
-same-length-2 : tie.Need-same-length-2 Inv-loop μ-loop
-same-length-2 c = search needs
-
-same-length-3 : tie.Need-same-length-3 Inv-loop μ-loop
-same-length-3 c = search needs
-
 returns : tie.Need-returns Inv-loop μ-loop
 returns c = search needs
 
-pub load-lines-spec : {M : Type 1} → statement M
-load-lines-spec =
+pub find-spec : {M : Type 1} → statement M
+find-spec =
     tie.close
     (tie.spec
     Inv-loop
     μ-loop
+    at-requires
     loop-holds
     look-requires
     sub-turns
@@ -59,6 +57,4 @@ load-lines-spec =
     loop-less-2
     loop-again-2
     same-length
-    same-length-2
-    same-length-3
     returns)
