@@ -12,19 +12,24 @@ mod windows;
 use sqv4::Header;
 use sqv4::Inspected;
 
-// The longest file of a batch that is taken.
-const LONGEST: usize = 1048576;
-
 // The longest file by itself: no longer one can lie in a chip's RAM.
 const LONGEST_READ: usize = 16777216;
 
 // More room than a text ever has left: all of it is written.
 const EVERYTHING: usize = 0xffff_ffff_ffff_ffff;
 
-// Where the text ends after a file: more may follow, or this was the last.
-enum Next {
-    More(usize),
-    Last(usize),
+// What stands next in a batch: a file of so many bytes, nothing, fewer bytes than a length or a file has, or a file that is too long.
+enum Batched {
+    File(usize),
+    End,
+    CutShort,
+    TooLong,
+}
+
+// Where the text ends after a file, and whether more may follow.
+struct Next {
+    at: usize,
+    going: bool,
 }
 
 // The numbers of a line: the first `count` of `values`.
@@ -168,9 +173,6 @@ fn print_file(file: &[u8], samples: &mut [i16], text: &mut [u8], at: usize) -> u
     ensures { λ r. ⌜ r ≤ length (now (text .exit)) ⌝ }
 {
     let start = program::flush(text, at, 128);
-    if LONGEST < file.len() {
-        return decimal::put_text(text, start, b"too long\n");
-    }
     let found = sqv4::decode(file, samples);
     let end = put_answer(text, start, found);
     let count = num::least(sample_count(found), samples.len());
@@ -188,50 +190,70 @@ fn number(bytes: &[u8; 4]) -> usize {
     wide(bytes[0]) + 256 * wide(bytes[1]) + 65536 * wide(bytes[2]) + 16777216 * wide(bytes[3])
 }
 
-// Prints why nothing more is read.
-fn stop(text: &mut [u8], at: usize, reason: &[u8]) -> Next {
-    let start = program::flush(text, at, 128);
-    Next::Last(decimal::put_text(text, start, reason))
-}
-
-// Reads the next file into `file`, which has one byte more than the longest, and prints what it is.
-fn print_next(file: &mut [u8], samples: &mut [i16], text: &mut [u8], at: usize) -> Next {
+// Reads the length that stands before the next file.
+fn read_length() -> Batched {
     let mut head = [0u8; 4];
     let got = io::read_full(libc::STDIN_FILENO, &mut head);
     if got == 0 {
-        return Next::Last(at);
+        return Batched::End;
     }
     if got < 4 {
-        return stop(text, at, b"cut short\n");
+        return Batched::CutShort;
     }
-    let length = number(&head);
+    Batched::File(number(&head))
+}
+
+// Reads the next file into `file`, which has one byte more than the longest.
+fn read_next(file: &mut [u8]) -> Batched {
+    let next = read_length();
+    let Batched::File(length) = next else {
+        return next;
+    };
     if file.len() <= length {
-        return stop(text, at, b"too long\n");
+        return Batched::TooLong;
     }
     if io::read_full(libc::STDIN_FILENO, &mut file[..length]) < length {
-        return stop(text, at, b"cut short\n");
+        return Batched::CutShort;
     }
-    Next::More(print_file(&file[..length], samples, text, at))
+    next
+}
+
+// Prints why nothing more is read.
+fn stop(text: &mut [u8], at: usize, reason: &[u8]) -> Next {
+    let start = program::flush(text, at, 128);
+    Next {
+        at: decimal::put_text(text, start, reason),
+        going: false,
+    }
+}
+
+// Reads the next file and prints what it is.
+fn print_next(file: &mut [u8], samples: &mut [i16], text: &mut [u8], at: usize) -> Next {
+    let next = read_next(&mut *file);
+    match next {
+        Batched::File(length) => Next {
+            at: print_file(num::part(file, 0, length), samples, text, at),
+            going: true,
+        },
+        Batched::End => Next { at, going: false },
+        Batched::CutShort => stop(text, at, b"cut short\n"),
+        Batched::TooLong => stop(text, at, b"too long\n"),
+    }
 }
 
 // Prints what every file is, by way of the lent buffers.
 fn print_all(file: &mut [u8], samples: &mut [i16], text: &mut [u8]) {
+    let mut next = Next { at: 0, going: true };
     let mut files: u64 = 0xffff_ffff_ffff_ffff;
-    let mut at = 0;
     while 0 < files {
-        let next = print_next(file, samples, text, at);
-        match next {
-            Next::More(end) => {
-                at = end;
-                files -= 1;
-            }
-            Next::Last(end) => {
-                at = end;
-                files = 0;
-            }
+        if next.going {
+            next = print_next(file, samples, text, next.at);
+            files -= 1;
+        } else {
+            files = 0;
         }
     }
-    program::flush(text, at, EVERYTHING);
+    program::flush(text, next.at, EVERYTHING);
 }
 
 fn print_input(file: &mut [u8], samples: &mut [i16]) {
@@ -252,22 +274,19 @@ pub fn print_batch() {
     with_samples(&mut samples);
 }
 
-// Prints what the one file on standard input is. One that has no room in the buffer is read window by window, if it can be read
-// again from where it began.
+// Puts what the one file on standard input is, of which `length` bytes stand in the window. One that fills it is read window by
+// window.
+fn put_one(begin: i64, length: usize, window: &mut [u8], text: &mut [u8]) -> usize {
+    if length < window.len() {
+        return pieces::print_file(num::part(window, 0, length), text);
+    }
+    windows::print_long(begin, window, text)
+}
+
 fn print_one(window: &mut [u8], text: &mut [u8]) {
     let begin = libc::lseek(libc::STDIN_FILENO, 0, libc::SEEK_CUR);
     let length = io::read_full(libc::STDIN_FILENO, &mut *window);
-    if length < window.len() {
-        let end = pieces::print_file(num::part(window, 0, length), &mut *text);
-        program::flush(text, end, EVERYTHING);
-        return;
-    }
-    if begin < 0 {
-        let end = decimal::put_text(&mut *text, 0, b"too long\n");
-        program::flush(text, end, EVERYTHING);
-        return;
-    }
-    let end = windows::print_long(begin, window, &mut *text);
+    let end = put_one(begin, length, window, &mut *text);
     program::flush(text, end, EVERYTHING);
 }
 

@@ -129,17 +129,10 @@ fn step(header: Header, walk: Walk, prints: bool, window: &mut [u8], text: &mut 
 }
 
 // All windows of a file, behind its header.
-fn walked(
-    header: Header,
-    found: Inspected,
-    place: Place,
-    prints: bool,
-    window: &mut [u8],
-    text: &mut [u8],
-) -> Walk {
+fn walked(header: Header, place: Place, prints: bool, window: &mut [u8], text: &mut [u8]) -> Walk {
     let mut walk = Walk {
         rest: place.rest,
-        found,
+        found: Inspected::Accepted(header),
         place,
     };
     let mut turns: u64 = 0xffff_ffff;
@@ -154,64 +147,31 @@ fn walked(
     walk
 }
 
-// A header with another number of samples.
-fn with_samples(header: Header, samples: usize) -> Header {
-    let variant = header.variant;
-    Header {
-        version: header.version,
-        variant,
-        channels: header.channels,
-        sample_rate: header.sample_rate,
-        samples_per_channel: samples,
-        frame_samples: header.frame_samples,
-        frame_count: header.frame_count,
-        frame_size: header.frame_size,
-    }
-}
-
 // What the fragments of a file are found to be.
-fn checked(
-    header: Header,
-    whole: Inspected,
-    samples: usize,
-    window: &mut [u8],
-    text: &mut [u8],
-) -> Inspected {
-    let walk = walked(header, whole, begun(samples, 0), false, window, text);
+fn checked(header: Header, window: &mut [u8], text: &mut [u8]) -> Inspected {
+    let place = begun(header.samples_per_channel, 0);
+    let walk = walked(header, place, false, window, text);
     walk.found
 }
 
 // Prints a file that is taken.
-fn print_taken(
-    header: Header,
-    whole: Inspected,
-    samples: usize,
-    begin: i64,
-    window: &mut [u8],
-    text: &mut [u8],
-) -> usize {
-    let end = crate::put_answer(&mut *text, 0, whole);
+fn print_taken(header: Header, begin: i64, window: &mut [u8], text: &mut [u8]) -> usize {
+    let end = crate::put_answer(&mut *text, 0, Inspected::Accepted(header));
     again(begin);
     read_head(&mut *window);
-    let walk = walked(header, whole, begun(samples, end), true, window, text);
+    let first = begun(header.samples_per_channel, end);
+    let walk = walked(header, first, true, window, text);
     let place = walk.place;
     place.end
 }
 
-// Prints a file whose length is right, of so many samples a channel.
-fn print_walked(
-    header: Header,
-    samples: usize,
-    begin: i64,
-    window: &mut [u8],
-    text: &mut [u8],
-) -> usize {
-    let whole = Inspected::Accepted(with_samples(header, samples));
-    let found = checked(header, whole, samples, &mut *window, &mut *text);
+// Prints a file whose length is right.
+fn print_walked(header: Header, begin: i64, window: &mut [u8], text: &mut [u8]) -> usize {
+    let found = checked(header, &mut *window, &mut *text);
     let Inspected::Accepted(_) = found else {
         return crate::put_answer(text, 0, found);
     };
-    print_taken(header, whole, samples, begin, window, text)
+    print_taken(header, begin, window, text)
 }
 
 // The length that a header at the front of a window asks for.
@@ -244,30 +204,58 @@ fn file_head(begin: i64, window: &mut [u8]) -> FileHead {
     }
 }
 
-fn input_length(begin: i64, window: &mut [u8]) -> usize {
-    again(begin);
-    count_input(window)
+// A header with another number of samples.
+fn with_samples(header: Header, samples: usize) -> Header {
+    let variant = header.variant;
+    Header {
+        version: header.version,
+        variant,
+        channels: header.channels,
+        sample_rate: header.sample_rate,
+        samples_per_channel: samples,
+        frame_samples: header.frame_samples,
+        frame_count: header.frame_count,
+        frame_size: header.frame_size,
+    }
+}
+
+// What a file with a header is found to be by its length.
+fn found_of(head: FileHead, length: usize) -> Inspected {
+    let found = head.found;
+    let expected = head.expected;
+    let Inspected::Accepted(header) = found else {
+        return found;
+    };
+    if length != expected {
+        return Inspected::InvalidFileLength {
+            expected,
+            actual: length,
+        };
+    }
+    Inspected::Accepted(with_samples(header, head.samples))
 }
 
 // Prints a file that is not too long.
 fn print_opened(begin: i64, length: usize, window: &mut [u8], text: &mut [u8]) -> usize {
     let head = file_head(begin, &mut *window);
-    let found = head.found;
-    let expected = head.expected;
+    let found = found_of(head, length);
     let Inspected::Accepted(header) = found else {
         return crate::put_answer(text, 0, found);
     };
-    if length != expected {
-        let other = Inspected::InvalidFileLength {
-            expected,
-            actual: length,
-        };
-        return crate::put_answer(text, 0, other);
-    }
-    print_walked(header, head.samples, begin, window, text)
+    print_walked(header, begin, window, text)
 }
 
-// Puts what the file on standard input is, which begins at a place and can be read again, and writes what the text has no room for.
+// The bytes of the input, or some more than the longest file has, as where it cannot be read again.
+fn input_length(begin: i64, window: &mut [u8]) -> usize {
+    if begin < 0 {
+        return LONGEST_READ + 1;
+    }
+    again(begin);
+    count_input(window)
+}
+
+// Puts what the file on standard input is, and writes what the text has no room for. It is read again from where it began, which is
+// below 0 where that cannot be done.
 pub(crate) fn print_long(begin: i64, window: &mut [u8], text: &mut [u8]) -> usize {
     let length = input_length(begin, &mut *window);
     if LONGEST_READ < length {

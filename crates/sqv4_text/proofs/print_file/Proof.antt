@@ -8,18 +8,6 @@ use Rattle.sqv4_text.proofs.print_file.Tie as tie
 flush-requires : tie.Need-flush-requires
 flush-requires c κs = search needs
 
-slice-aggregate-put-text : tie.Need-slice-aggregate-put-text
-slice-aggregate-put-text c = search needs
-
-put-text-requires : tie.Need-put-text-requires
-put-text-requires c κs = search needs
-
-same-length : tie.Need-same-length
-same-length c = search needs
-
-returns : tie.Need-returns
-returns c = search needs
-
 decode-requires : tie.Need-decode-requires
 decode-requires c κs = search needs
 
@@ -41,24 +29,20 @@ slice-aggregate-print-samples c = sym (length-take-le (c .before .least .result)
 print-samples-requires : tie.Need-print-samples-requires
 print-samples-requires c κs = search needs
 
+same-length : tie.Need-same-length
+same-length c = search needs
+
 same-length-2 : tie.Need-same-length-2
 same-length-2 c = search needs
 
-same-length-3 : tie.Need-same-length-3
-same-length-3 c = search needs
-
-returns-2 : tie.Need-returns-2
-returns-2 c = search needs
+returns : tie.Need-returns
+returns c = search needs
 
 pub print-file-spec : {M : Type 1} → statement M
 print-file-spec =
     tie.close
     (tie.spec
     flush-requires
-    slice-aggregate-put-text
-    put-text-requires
-    same-length
-    returns
     decode-requires
     put-answer-requires
     sample-count-requires
@@ -66,6 +50,6 @@ print-file-spec =
     slice-reshare-prefix-print-samples
     slice-aggregate-print-samples
     print-samples-requires
+    same-length
     same-length-2
-    same-length-3
-    returns-2)
+    returns)
