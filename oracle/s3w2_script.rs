@@ -125,7 +125,7 @@ impl Player {
         let (ram, queues) = match code {
             b'Z' | b'M' | b'm' | b'B' => (true, false),
             b'W' | b'C' => (false, true),
-            b'G' | b'S' | b'X' | b'Y' | b'y' => (true, true),
+            b'G' | b'S' | b'X' | b'Y' | b'y' | b's' => (true, true),
             _ => (false, false),
         };
         if !matches!(code, b'N' | b'k' | b'A' | b'O' | b'U' | b'u' | b'l' | b'E' | b'F' | b'D' | b'K') {
@@ -185,6 +185,7 @@ impl Player {
             b'S' => return self.stems(u(0), u(1)),
             b'X' | b'Y' => return self.sides(code, u(0), u(1), f[2] as u64),
             b'y' => return self.wide_sides(u(0), u(1), f[2] as u64),
+            b's' => return self.summed(u(0)),
             b'l' => (self.ram, self.queues) = (u(0), u(1)),
             b'E' => self.set_state(u(0), &f[1..]),
             b'F' => self.set_cache(u(0), &f[1..]),
@@ -240,24 +241,49 @@ impl Player {
         (l, r)
     }
 
+    fn mix_into(&mut self, l: &mut [i16], r: &mut [i16]) {
+        if !self.paired {
+            return self.chips[0].clock_mixed_into(l, r);
+        }
+        let (a, b) = self.sums(l.len().min(r.len()));
+        for (x, y) in l.iter_mut().zip(a).chain(r.iter_mut().zip(b)) {
+            *x = x.saturating_add(clamped(y));
+        }
+    }
+
     fn sides(&mut self, code: u8, left: usize, right: usize, seed: u64) -> Answer {
         let mut s = Seeded(seed);
         let mut l: Vec<i16> = (0..left).map(|_| s.next() as i16).collect();
         let mut r: Vec<i16> = (0..right).map(|_| s.next() as i16).collect();
         let n = left.min(right);
-        if self.paired {
+        if code == b'Y' {
+            self.mix_into(&mut l, &mut r);
+        } else if self.paired {
             let (a, b) = self.sums(n);
             for (x, y) in l.iter_mut().zip(a).chain(r.iter_mut().zip(b)) {
-                *x = if code == b'X' { clamped(y) } else { x.saturating_add(clamped(y)) };
+                *x = clamped(y);
             }
-        } else if code == b'X' {
+        } else {
             let (a, b) = self.chips[0].clock_mixed(n);
             l[..n].copy_from_slice(&a);
             r[..n].copy_from_slice(&b);
-        } else {
-            self.chips[0].clock_mixed_into(&mut l, &mut r);
         }
         Ok(l.iter().chain(&r).map(|&x| x.into()).collect())
+    }
+
+    /// The sums of both sides' values over frames, clocked 1,000 at a time.
+    fn summed(&mut self, frames: usize) -> Answer {
+        let (mut a, mut b) = (0i64, 0i64);
+        let mut left = frames;
+        while left > 0 {
+            let n = left.min(1000);
+            let (mut l, mut r) = ([0i16; 1000], [0i16; 1000]);
+            self.mix_into(&mut l[..n], &mut r[..n]);
+            a += l[..n].iter().map(|&x| i64::from(x)).sum::<i64>();
+            b += r[..n].iter().map(|&x| i64::from(x)).sum::<i64>();
+            left -= n;
+        }
+        Ok(vec![a.into(), b.into()])
     }
 
     fn wide_sides(&mut self, left: usize, right: usize, seed: u64) -> Answer {

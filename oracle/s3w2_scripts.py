@@ -24,6 +24,7 @@ class List:
 
     def __init__(self, seed, number, length, states=True, cores="one"):
         self.rng = random.Random(f"{seed}/{number}/{length}" + ("" if cores == "one" else f"/{cores}"))
+        self.sums = random.Random(f"{seed}/{number}/{length}/{cores}/sums")
         self.length = length
         self.apart = cores == "apart"
         self.pairs = cores != "one"
@@ -326,6 +327,8 @@ class List:
             self.put("S", frames, min(length, 16384)) if frames <= 512 else self.put("S", 3, 96)
         else:
             self.put("XYYyy"[k - 5], frames, other, seed)
+        if self.sums.random() < 0.03:
+            self.put("s", self.sums.choice([0, 1, 2, 30, 256, 999, 1000, 1001, 2000, 2300, self.sums.randrange(3000)]))
 
     def read(self):
         rng = self.rng

@@ -1,9 +1,6 @@
 // Plays a script of calls: reads lines from standard input, prints each call's answer. oracle/README.md lists the lines.
 mod answers;
 mod calls;
-mod fields;
-mod setting;
-mod showing;
 mod sounding;
 
 use cores::CHIP_QUEUES;
@@ -20,13 +17,17 @@ const RAM_ROOM: usize = 1048576;
 // More bytes than a line's answer has: 16,384 samples of a clock are the longest, with at most 7 bytes each.
 const ANSWER_ROOM: usize = 131072;
 
-// A chip, the lengths of RAM and queue buffer that are lent to it, the core that lines name, and the place behind the answers that are
-// not written yet.
-struct Player {
-    chip: Chip,
+// The lengths of RAM and queue buffer that are lent to the chip, and the core that lines name.
+struct Lent {
     ram: usize,
     queues: usize,
     core: usize,
+}
+
+// A chip, what is lent to it, and the place behind the answers that are not written yet.
+struct Player {
+    chip: Chip,
+    lent: Lent,
     end: usize,
 }
 
@@ -37,29 +38,53 @@ fn first(ram: &mut [u8]) -> Player {
     let chip = called.chip;
     Player {
         chip,
-        ram: 256,
-        queues: CHIP_QUEUES,
-        core: 0,
+        lent: Lent {
+            ram: 256,
+            queues: CHIP_QUEUES,
+            core: 0,
+        },
         end: 0,
     }
 }
 
-impl Player {
-    // Writes the answers where another may not fit behind them, and begins one with its line's letter.
-    fn begun(mut self, letter: u8, out: &mut [u8]) -> Player {
-        let at = program::flush(&*out, self.end, ANSWER_ROOM);
-        self.end = decimal::put_byte(out, at, letter);
+impl Lent {
+    // With what a line asks for from then on.
+    fn after(mut self, line: &[u64]) -> Lent {
+        match script_fields::letter(line) {
+            b'l' => {
+                self.ram = script_fields::size(line, 1);
+                self.queues = script_fields::size(line, 2);
+            }
+            b'N' => {
+                self.ram = script_fields::size(line, 2);
+                self.queues = CHIP_QUEUES;
+                self.core = 0;
+            }
+            b'k' => self.core = script_fields::size(line, 1),
+            _ => {}
+        }
         self
+    }
+}
+
+impl Player {
+    // Plays a line's fields.
+    fn play(self, line: &[u64], ram: &mut [u8], queues: &mut [i16], out: &mut [u8]) -> Player {
+        let mut numbers = [0u64; sounding::STEMS];
+        let before = self.lent;
+        let lent = before.after(line);
+        let called = calls::called(self.chip, lent, line, &mut *ram, &mut *queues, &mut numbers);
+        let chip = called.chip;
+        let end = answers::put(out, self.end, called, lent, line, &*ram, &*queues, &numbers);
+        Player { chip, lent, end }
     }
 
     // Plays one line, without its closing byte 10.
     fn line(self, text: &[u8], ram: &mut [u8], queues: &mut [i16], out: &mut [u8]) -> Player {
         let letter = num::byte_at(text, 0);
         let mut f = [letter as u64; FIELDS];
-        let count = fields::parse(text, &mut f);
-        let begun = self.begun(letter, &mut *out);
-        let player = begun.answer(fields::first(&f, count), ram, queues, &mut *out);
-        player.ended(decimal::put_byte(out, player.end, 10))
+        let count = script_fields::parse(text, &mut f);
+        self.play(script_fields::first(&f, count), ram, queues, out)
     }
 }
 

@@ -6,10 +6,10 @@ use Rattle.s3w2_script.proofs.calls.write_bytes.Statement.{statement}
 use Rattle.s3w2_script.proofs.calls.write_bytes.Tie as tie
 
 abbrev Inv-loop : tie.InvT-loop
-Inv-loop line ram₀ chip₀ answer₀ at₀ i₀ i-end ram chip answer at i = length ram ≡ length ram₀
+Inv-loop line ram₀ called₀ at₀ i₀ i-end ram called at i = length ram ≡ length ram₀
 
 abbrev μ-loop : tie.MeasureT-loop
-μ-loop line ram₀ chip₀ answer₀ at₀ i₀ i-end ram chip answer at i = i-end - i
+μ-loop line ram₀ called₀ at₀ i₀ i-end ram called at i = i-end - i
 
 word-requires : tie.Need-word-requires Inv-loop μ-loop
 word-requires c κs = search needs

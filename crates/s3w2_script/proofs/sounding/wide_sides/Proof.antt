@@ -16,38 +16,26 @@ size-requires-2 c κs = search needs
 least-requires-2 : tie.Need-least-requires-2
 least-requires-2 c κs = search needs
 
-slice-aggregate-fill-wide : tie.Need-slice-aggregate-fill-wide
-slice-aggregate-fill-wide c = search needs
-
-long-requires : tie.Need-long-requires
-long-requires c κs = search needs
-
-fill-wide-requires : tie.Need-fill-wide-requires
-fill-wide-requires c κs = search needs
-
-slice-aggregate-fill-wide-2 : tie.Need-slice-aggregate-fill-wide-2
-slice-aggregate-fill-wide-2 c = search needs
-
-fill-wide-requires-2 : tie.Need-fill-wide-requires-2
-fill-wide-requires-2 c κs = search needs
-
 array-borrow-prefix-left : tie.Need-array-borrow-prefix-left
 array-borrow-prefix-left c = search needs
 
-slice-aggregate-clock-mixed-into-i32 : tie.Need-slice-aggregate-clock-mixed-into-i32
-slice-aggregate-clock-mixed-into-i32 c = sym (length-take-le _ _ (search needs))
+slice-aggregate-wide-sound-over : tie.Need-slice-aggregate-wide-sound-over
+slice-aggregate-wide-sound-over c = sym (length-take-le _ _ (search needs))
 
 array-borrow-prefix-right : tie.Need-array-borrow-prefix-right
 array-borrow-prefix-right c = search needs
 
-slice-aggregate-clock-mixed-into-i32-2 : tie.Need-slice-aggregate-clock-mixed-into-i32-2
-slice-aggregate-clock-mixed-into-i32-2 c = sym (length-take-le _ _ (search needs))
+slice-aggregate-wide-sound-over-2 : tie.Need-slice-aggregate-wide-sound-over-2
+slice-aggregate-wide-sound-over-2 c = sym (length-take-le _ _ (search needs))
 
-clock-mixed-into-i32-requires : tie.Need-clock-mixed-into-i32-requires
-clock-mixed-into-i32-requires c κs = search needs
+wide-sound-over-requires : tie.Need-wide-sound-over-requires
+wide-sound-over-requires c κs = search needs
 
 same-length : tie.Need-same-length
 same-length c = search needs
+
+same-length-2 : tie.Need-same-length-2
+same-length-2 c = search needs
 
 returns : tie.Need-returns
 returns c = search needs
@@ -60,15 +48,11 @@ wide-sides-spec =
     least-requires
     size-requires-2
     least-requires-2
-    slice-aggregate-fill-wide
-    long-requires
-    fill-wide-requires
-    slice-aggregate-fill-wide-2
-    fill-wide-requires-2
     array-borrow-prefix-left
-    slice-aggregate-clock-mixed-into-i32
+    slice-aggregate-wide-sound-over
     array-borrow-prefix-right
-    slice-aggregate-clock-mixed-into-i32-2
-    clock-mixed-into-i32-requires
+    slice-aggregate-wide-sound-over-2
+    wide-sound-over-requires
     same-length
+    same-length-2
     returns)
