@@ -1,6 +1,8 @@
 // The files that a program writes: their headers first, then the frames; and what is said.
 use crate::Run;
 use crate::Sound;
+use crate::counting::Known;
+use crate::counting::look_ahead;
 use crate::measuring::print_last;
 use crate::playing::play;
 use cores::CHIP_STEMS;
@@ -38,11 +40,6 @@ struct Files {
 
 fn files_of(sound: Sound) -> Files {
     match sound {
-        Sound::Count => Files {
-            count: 0,
-            channels: 2,
-            first: libc::STDOUT_FILENO,
-        },
         Sound::Mix => Files {
             count: 1,
             channels: 2,
@@ -154,8 +151,7 @@ fn write(
     complain(b"the output cannot be written\n");
 }
 
-// Where the input can be read again, the log's frames are counted first, so that its length is known ahead and nothing is written of a
-// log with a bad line.
+// Nothing is written of a log that has a bad line, where that is known ahead.
 pub(crate) fn make(
     sound: Sound,
     input: &mut [u8],
@@ -165,23 +161,8 @@ pub(crate) fn make(
     others: &mut [i16],
     out: &mut [u8],
 ) {
-    let begin = libc::lseek(libc::STDIN_FILENO, 0, libc::SEEK_CUR);
-    if 0 <= begin {
-        let run = play(
-            Sound::Count,
-            &mut *input,
-            &mut *ram,
-            &mut *queues,
-            &mut *stems,
-            &mut *others,
-            &mut *out,
-        );
-        if !run.whole {
-            return;
-        }
-        libc::lseek(libc::STDIN_FILENO, begin, libc::SEEK_SET);
-        write(sound, run.frames, input, ram, queues, stems, others, out);
-        return;
+    let ahead = look_ahead(&mut *input);
+    if let Known::Frames(frames) = ahead {
+        write(sound, frames, input, ram, queues, stems, others, out);
     }
-    write(sound, wav::UNKNOWN, input, ram, queues, stems, others, out);
 }

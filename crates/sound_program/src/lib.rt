@@ -1,6 +1,7 @@
 // The programs over a log's sound. Here bytes are only read, moved and written: the samples are log_sound's, their bytes wav's, their
 // levels those of crate levels. What a program has to say of a run stands on standard error: a line `frames,COUNT` for each second of
 // sound, and a last one: `played,COUNT`, or `bad`, the line and the number of why.
+mod counting;
 mod files;
 mod measuring;
 mod playing;
@@ -9,16 +10,13 @@ mod sounds;
 use cores::CHIP_QUEUES;
 use cores::CHIP_STEMS;
 use levels::SideLevel;
-use s3w2::Chip;
 use sizes::STEMS;
 
 // The frames that are played at a time: no line has more.
 const FRAMES: usize = 1000;
 
-// What becomes of the frames: they are counted, written as one WAV file of the mix or of all stems, or as one for each voice, or
-// measured.
+// What becomes of the frames: they are written as one WAV file of the mix or of all stems, or as one for each voice, or measured.
 pub(crate) enum Sound {
-    Count,
     Mix,
     Stems,
     Split,
@@ -36,7 +34,6 @@ pub(crate) struct Level {
 // A log being played: the bytes of the input buffer from `from` to before `filled` are not played yet, and begin with line `number`;
 // `frames` were played. `going` says that it goes on, `whole` that it has come to its end.
 pub(crate) struct Run {
-    pub chip: Chip,
     pub level: Level,
     pub from: usize,
     pub filled: usize,

@@ -98,17 +98,9 @@ pub(crate) fn print_last(run: Run, out: &mut [u8]) -> bool {
 
 impl Run {
     fn with_level(self, level: Level) -> Run {
-        let chip = self.chip;
-        Run {
-            chip,
-            level,
-            from: self.from,
-            filled: self.filled,
-            number: self.number,
-            frames: self.frames,
-            going: self.going,
-            whole: self.whole,
-        }
+        let mut run = self;
+        run.level = level;
+        run
     }
 }
 

@@ -13,23 +13,20 @@ use s3w2::Chip;
 use sizes::SAMPLE_RATE;
 use sizes::STEMS;
 
-// A fresh chip, nothing read.
-pub(crate) fn begun(ram: &mut [u8]) -> Run {
-    let called = Chip::new(ram);
-    let chip = called.chip;
-    Run {
-        chip,
-        level: Level::none(),
-        from: 0,
-        filled: 0,
-        number: 1,
-        frames: 0,
-        going: true,
-        whole: false,
-    }
-}
-
 impl Run {
+    // Nothing read.
+    pub(crate) fn begun() -> Run {
+        Run {
+            level: Level::none(),
+            from: 0,
+            filled: 0,
+            number: 1,
+            frames: 0,
+            going: true,
+            whole: false,
+        }
+    }
+
     fn at(self, from: usize, filled: usize) -> Run {
         let mut run = self;
         run.from = from;
@@ -93,31 +90,28 @@ fn told(before: u64, after: u64) {
 
 impl Run {
     // After some lines, which end at a place.
-    fn passed(self, from: usize, count: usize, frames: usize) -> Run {
+    pub(crate) fn passed(self, from: usize, count: usize, frames: usize) -> Run {
         let mut run = self;
         run.from = from;
         run.number = std::num::wrapping_add_u64(self.number, count as u64);
         run.frames = std::num::wrapping_add_u64(self.frames, frames as u64);
         run
     }
+}
 
-    fn with_chip(self, chip: Chip) -> Run {
-        let level = self.level;
-        Run {
-            chip,
-            level,
-            from: self.from,
-            filled: self.filled,
-            number: self.number,
-            frames: self.frames,
-            going: self.going,
-            whole: self.whole,
+// A run that stood at `before`; where no line was taken it goes on with more input.
+pub(crate) fn settled(before: usize, run: Run, input: &mut [u8]) -> Run {
+    if run.from == before {
+        if run.going {
+            return unplayed(run, input);
         }
     }
+    run
 }
 
 // The next lines, as many as there is room for the frames of.
 fn lines_of(
+    chip: Chip,
     run: Run,
     input: &[u8],
     ram: &mut [u8],
@@ -125,65 +119,62 @@ fn lines_of(
     stems: &mut [i16],
     others: &mut [i16],
 ) -> Sounded {
-    let chip = run.chip;
     let read = num::part(input, 0, run.filled);
     log_sound::play(chip, read, run.from, ram, queues, stems, others)
+}
+
+// What becomes of so many frames.
+fn framed(
+    sound: Sound,
+    run: Run,
+    frames: usize,
+    stems: &[i16],
+    others: &[i16],
+    out: &mut [u8],
+) -> Run {
+    let end = STEMS * num::least(frames, FRAMES);
+    let a = num::least(end, stems.len());
+    let b = num::least(end, others.len());
+    sounded(sound, run, &stems[..a], &others[..b], out)
 }
 
 // A run after them.
 fn heard(
     sound: Sound,
     run: Run,
-    input: &[u8],
-    ram: &mut [u8],
-    queues: &mut [i16],
-    stems: &mut [i16],
-    others: &mut [i16],
+    lines: Sounded,
+    stems: &[i16],
+    others: &[i16],
     out: &mut [u8],
 ) -> Run {
-    let lines = lines_of(run, input, ram, queues, &mut *stems, &mut *others);
-    let after = lines.chip;
     let answer = lines.answer;
-    let passed = run.passed(lines.from, lines.count, lines.frames);
-    let next = passed.with_chip(after);
+    let next = run.passed(lines.from, lines.count, lines.frames);
     let Answer::Done = answer else {
         complain(b"the chip refuses the log\n");
         return next.stopped(false);
     };
     told(run.frames, next.frames);
-    let end = STEMS * num::least(lines.frames, FRAMES);
-    let a = num::least(end, stems.len());
-    let b = num::least(end, others.len());
-    sounded(sound, next, &stems[..a], &others[..b], out)
+    framed(sound, next, lines.frames, stems, others, out)
 }
 
-// The same where they are only counted.
-fn counted(run: Run, input: &[u8]) -> Run {
-    let lines = log_sound::pass(num::part(input, 0, run.filled), run.from, FRAMES);
-    run.passed(lines.from, lines.count, lines.frames)
-}
-
-// The next lines, counted or played.
-fn taken(
-    sound: Sound,
-    run: Run,
-    input: &[u8],
-    ram: &mut [u8],
-    queues: &mut [i16],
-    stems: &mut [i16],
-    others: &mut [i16],
-    out: &mut [u8],
-) -> Run {
-    if let Sound::Count = sound {
-        return counted(run, input);
-    }
-    heard(sound, run, input, ram, queues, stems, others, out)
-}
-
-// The next lines; where none can be taken, more input.
+// The same; where no line was taken it goes on with more input.
 fn turn(
     sound: Sound,
     run: Run,
+    lines: Sounded,
+    input: &mut [u8],
+    stems: &[i16],
+    others: &[i16],
+    out: &mut [u8],
+) -> Run {
+    let next = heard(sound, run, lines, stems, others, out);
+    settled(run.from, next, input)
+}
+
+// Plays the whole input on a chip.
+fn play_on(
+    sound: Sound,
+    fresh: Chip,
     input: &mut [u8],
     ram: &mut [u8],
     queues: &mut [i16],
@@ -191,16 +182,30 @@ fn turn(
     others: &mut [i16],
     out: &mut [u8],
 ) -> Run {
-    let next = taken(sound, run, &*input, ram, queues, stems, others, out);
-    if next.from == run.from {
-        if next.going {
-            return unplayed(next, input);
+    let mut chip = fresh;
+    let mut run = Run::begun();
+    let mut turns: u64 = 0xffff_ffff_ffff_ffff;
+    while 0 < turns {
+        if run.going {
+            let lines = lines_of(
+                chip,
+                run,
+                &*input,
+                &mut *ram,
+                &mut *queues,
+                &mut *stems,
+                &mut *others,
+            );
+            chip = lines.chip;
+            run = turn(sound, run, lines, &mut *input, &*stems, &*others, &mut *out);
+            turns -= 1;
+        } else {
+            turns = 0;
         }
     }
-    next
+    run
 }
 
-// Plays the whole input.
 pub(crate) fn play(
     sound: Sound,
     input: &mut [u8],
@@ -210,24 +215,7 @@ pub(crate) fn play(
     others: &mut [i16],
     out: &mut [u8],
 ) -> Run {
-    let mut run = begun(&mut *ram);
-    let mut turns: u64 = 0xffff_ffff_ffff_ffff;
-    while 0 < turns {
-        if run.going {
-            run = turn(
-                sound,
-                run,
-                &mut *input,
-                &mut *ram,
-                &mut *queues,
-                &mut *stems,
-                &mut *others,
-                &mut *out,
-            );
-            turns -= 1;
-        } else {
-            turns = 0;
-        }
-    }
-    run
+    let called = Chip::new(&mut *ram);
+    let chip = called.chip;
+    play_on(sound, chip, input, ram, queues, stems, others, out)
 }

@@ -91,7 +91,6 @@ pub(crate) fn sounded(
     out: &mut [u8],
 ) -> Run {
     match sound {
-        Sound::Count => run,
         Sound::Mix => going(run, mix(stems, others, out)),
         Sound::Stems => going(run, all_stems(stems, others, out)),
         Sound::Split => going(run, all_voices(stems, others, out)),
