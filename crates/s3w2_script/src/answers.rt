@@ -1,6 +1,7 @@
 // A line's answer.
 use crate::ANSWER_ROOM;
 use crate::Lent;
+use crate::fields;
 use crate::sounding;
 use cores::LAST_CORE;
 use s3w2::Answer;
@@ -12,9 +13,9 @@ fn given(answer: Answer) -> u64 {
     match answer {
         Answer::Byte(x) => x as u64,
         Answer::Count(x) => x as u64,
-        Answer::Flag(x) => script_fields::flag_number(x),
+        Answer::Flag(x) => fields::flag_number(x),
         Answer::Ended(x) => x as u64,
-        Answer::Sample { value, .. } => script_fields::sample_bits(value),
+        Answer::Sample { value, .. } => fields::sample_bits(value),
         _ => answer.number() as u64,
     }
 }
@@ -24,10 +25,10 @@ fn put_given(out: &mut [u8], at: usize, answer: Answer) -> usize {
     match answer {
         Answer::Done => at,
         Answer::Sample { ended, .. } => {
-            let end = script_fields::put_number(&mut *out, at, given(answer));
-            script_fields::put(out, end, script_fields::flag_number(ended))
+            let end = fields::put_number(&mut *out, at, given(answer));
+            fields::put(out, end, fields::flag_number(ended))
         }
-        _ => script_fields::put(out, at, given(answer)),
+        _ => fields::put(out, at, given(answer)),
     }
 }
 
@@ -35,10 +36,10 @@ fn put_given(out: &mut [u8], at: usize, answer: Answer) -> usize {
 fn put_answer(out: &mut [u8], at: usize, answer: Answer, line: &[u64], numbers: &[u64]) -> usize {
     if answer.number() != 0 {
         let end = decimal::put_text(&mut *out, at, b",no");
-        return script_fields::put(out, end, given(answer));
+        return fields::put(out, end, given(answer));
     }
     let end = put_given(&mut *out, at, answer);
-    script_fields::put_numbers(out, end, numbers, sounding::count(line))
+    fields::put_numbers(out, end, numbers, sounding::count(line))
 }
 
 // Puts a line's voice.
@@ -53,7 +54,7 @@ fn put_voice(
     let k = num::least(lent.core, LAST_CORE);
     let q = num::least(lent.queues, queues.len());
     let core = chip.cores[k];
-    script_fields::put_voice(core, k, line, &queues[..q], out, at)
+    fields::put_voice(core, k, line, &queues[..q], out, at)
 }
 
 // Puts a line's answer behind its letter.
@@ -68,9 +69,9 @@ fn put_behind(
     numbers: &[u64],
 ) -> usize {
     let answer = called.answer;
-    match script_fields::letter(line) {
+    match fields::letter(line) {
         b'A' | b'O' | b'U' | b'u' | b'K' => {
-            script_fields::put_told(line, num::part(ram, 0, lent.ram), out, at)
+            fields::put_told(line, num::part(ram, 0, lent.ram), out, at)
         }
         b'D' => put_voice(out, at, called.chip, lent, line, queues),
         _ => put_answer(out, at, answer, line, numbers),
@@ -89,7 +90,7 @@ pub(crate) fn put(
     numbers: &[u64],
 ) -> usize {
     let first = program::flush(&*out, end, ANSWER_ROOM);
-    let at = decimal::put_byte(&mut *out, first, script_fields::letter(line));
+    let at = decimal::put_byte(&mut *out, first, fields::letter(line));
     let last = put_behind(&mut *out, at, called, lent, line, ram, queues, numbers);
     decimal::put_byte(out, last, 10)
 }

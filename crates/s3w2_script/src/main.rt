@@ -1,6 +1,7 @@
 // Plays a script of calls: reads lines from standard input, prints each call's answer. oracle/README.md lists the lines.
 mod answers;
 mod calls;
+mod fields;
 mod sounding;
 
 use cores::CHIP_QUEUES;
@@ -50,17 +51,17 @@ fn first(ram: &mut [u8]) -> Player {
 impl Lent {
     // With what a line asks for from then on.
     fn after(mut self, line: &[u64]) -> Lent {
-        match script_fields::letter(line) {
+        match fields::letter(line) {
             b'l' => {
-                self.ram = script_fields::size(line, 1);
-                self.queues = script_fields::size(line, 2);
+                self.ram = fields::size(line, 1);
+                self.queues = fields::size(line, 2);
             }
             b'N' => {
-                self.ram = script_fields::size(line, 2);
+                self.ram = fields::size(line, 2);
                 self.queues = CHIP_QUEUES;
                 self.core = 0;
             }
-            b'k' => self.core = script_fields::size(line, 1),
+            b'k' => self.core = fields::size(line, 1),
             _ => {}
         }
         self
@@ -83,8 +84,8 @@ impl Player {
     fn line(self, text: &[u8], ram: &mut [u8], queues: &mut [i16], out: &mut [u8]) -> Player {
         let letter = num::byte_at(text, 0);
         let mut f = [letter as u64; FIELDS];
-        let count = script_fields::parse(text, &mut f);
-        self.play(script_fields::first(&f, count), ram, queues, out)
+        let count = fields::parse(text, &mut f);
+        self.play(fields::first(&f, count), ram, queues, out)
     }
 }
 

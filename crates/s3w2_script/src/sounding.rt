@@ -1,4 +1,5 @@
 // The lines that clock frames.
+use crate::fields;
 use s3w2::Called;
 use s3w2::Chip;
 
@@ -17,21 +18,21 @@ struct Lengths {
 }
 
 fn asked_lengths(line: &[u64]) -> Lengths {
-    if script_fields::letter(line) == b'S' {
+    if fields::letter(line) == b'S' {
         return Lengths {
-            left: num::least(script_fields::size(line, 2), STEMS),
+            left: num::least(fields::size(line, 2), STEMS),
             right: 0,
         };
     }
     Lengths {
-        left: num::least(script_fields::size(line, 1), SIDE),
-        right: num::least(script_fields::size(line, 2), SIDE),
+        left: num::least(fields::size(line, 1), SIDE),
+        right: num::least(fields::size(line, 2), SIDE),
     }
 }
 
 // How many numbers a line's frames give.
 pub(crate) fn count(line: &[u64]) -> usize {
-    match script_fields::letter(line) {
+    match fields::letter(line) {
         b'S' | b'X' | b'Y' | b'y' => {
             let n = asked_lengths(line);
             std::num::wrapping_add_usize(n.left, n.right)
@@ -49,8 +50,8 @@ fn clocked(
     left: &mut [i16],
     right: &mut [i16],
 ) -> Called {
-    match script_fields::letter(line) {
-        b'S' => chip_sound::clock(chip, ram, queues, script_fields::size(line, 1), left),
+    match fields::letter(line) {
+        b'S' => chip_sound::clock(chip, ram, queues, fields::size(line, 1), left),
         b'X' => chip_sound::clock_mixed(chip, ram, queues, left, right),
         _ => chip_sound::clock_mixed_into(chip, ram, queues, left, right),
     }
@@ -66,9 +67,9 @@ fn sound_over(
     right: &mut [i16],
     numbers: &mut [u64],
 ) -> Called {
-    script_fields::fill_sides(&mut *left, &mut *right, line);
+    fields::fill_sides(&mut *left, &mut *right, line);
     let called = clocked(chip, line, ram, queues, &mut *left, &mut *right);
-    script_fields::keep_sides(numbers, &*left, &*right, line);
+    fields::keep_sides(numbers, &*left, &*right, line);
     called
 }
 
@@ -105,9 +106,9 @@ fn wide_sound_over(
     right: &mut [i32],
     numbers: &mut [u64],
 ) -> Called {
-    script_fields::fill_wide_sides(&mut *left, &mut *right, line);
+    fields::fill_wide_sides(&mut *left, &mut *right, line);
     let called = chip_sound::clock_mixed_into_i32(chip, ram, queues, &mut *left, &mut *right);
-    script_fields::keep_wide_sides(numbers, &*left, &*right);
+    fields::keep_wide_sides(numbers, &*left, &*right);
     called
 }
 
@@ -120,8 +121,8 @@ fn wide_sides(
 ) -> Called {
     let mut left = [0i32; SIDE];
     let mut right = [0i32; SIDE];
-    let l = num::least(script_fields::size(line, 1), SIDE);
-    let r = num::least(script_fields::size(line, 2), SIDE);
+    let l = num::least(fields::size(line, 1), SIDE);
+    let r = num::least(fields::size(line, 2), SIDE);
     wide_sound_over(
         chip,
         line,
@@ -139,7 +140,7 @@ fn both(n: usize) -> Lengths {
 
 // All frames that a line asks for, the odd ones first, over zeroed sides whose values are added to the first two numbers.
 fn summed(chip: Chip, line: &[u64], ram: &[u8], queues: &mut [i16], numbers: &mut [u64]) -> Called {
-    let frames = script_fields::size(line, 1);
+    let frames = fields::size(line, 1);
     let odd = frames % AT_ONCE;
     let mut called = sides(chip, line, both(odd), ram, &mut *queues, &mut *numbers);
     for _ in 0..frames / AT_ONCE {
@@ -163,7 +164,7 @@ pub(crate) fn sounded(
     queues: &mut [i16],
     numbers: &mut [u64],
 ) -> Called {
-    match script_fields::letter(line) {
+    match fields::letter(line) {
         b'y' => wide_sides(chip, line, ram, queues, numbers),
         b's' => summed(chip, line, ram, queues, numbers),
         _ => sides(chip, line, asked_lengths(line), ram, queues, numbers),
