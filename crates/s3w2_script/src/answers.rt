@@ -2,47 +2,56 @@
 use crate::ANSWER_ROOM;
 use crate::Lent;
 use crate::fields;
+use crate::fields::Given;
 use crate::sounding;
 use cores::LAST_CORE;
 use s3w2::Answer;
 use s3w2::Called;
 use s3w2::Chip;
 
-// The number that an answer gives.
-fn given(answer: Answer) -> u64 {
+// The numbers that an answer gives, or that of its refusal.
+fn given(answer: Answer) -> Given {
     match answer {
-        Answer::Byte(x) => x as u64,
-        Answer::Count(x) => x as u64,
-        Answer::Flag(x) => fields::flag_number(x),
-        Answer::Ended(x) => x as u64,
-        Answer::Sample { value, .. } => fields::sample_bits(value),
-        _ => answer.number() as u64,
+        Answer::Done => Given {
+            numbers: [0, 0],
+            count: 0,
+        },
+        Answer::Byte(x) => fields::one(x as u64),
+        Answer::Count(x) => fields::one(x as u64),
+        Answer::Flag(x) => fields::one(fields::flag_number(x)),
+        Answer::Ended(x) => fields::one(x as u64),
+        Answer::Sample { value, ended } => Given {
+            numbers: [fields::sample_bits(value), fields::flag_number(ended)],
+            count: 2,
+        },
+        _ => fields::one(answer.number() as u64),
     }
 }
 
-// Puts what a call gives.
-fn put_given(out: &mut [u8], at: usize, answer: Answer) -> usize {
-    match answer {
-        Answer::Done => at,
-        Answer::Sample { ended, .. } => {
-            let end = fields::put_number(&mut *out, at, given(answer));
-            fields::put(out, end, fields::flag_number(ended))
-        }
-        _ => fields::put(out, at, given(answer)),
+// What a line tells of no chip, or what its call gives.
+fn answered(answer: Answer, line: &[u64], ram: &[u8]) -> Given {
+    match fields::letter(line) {
+        b'A' | b'O' | b'U' | b'u' | b'K' => fields::told(line, ram),
+        _ => given(answer),
     }
 }
 
-// Puts what a call gives, and what frames gave, or the number of its refusal.
-fn put_answer(out: &mut [u8], at: usize, answer: Answer, line: &[u64], numbers: &[u64]) -> usize {
-    if answer.number() != 0 {
-        let end = decimal::put_text(&mut *out, at, b",no");
-        return fields::put(out, end, given(answer));
-    }
-    let end = put_given(&mut *out, at, answer);
-    fields::put_numbers(out, end, numbers, sounding::count(line))
+// Puts what a line gives, and the numbers that its frames gave, or the number of its refusal.
+fn put_answer(
+    out: &mut [u8],
+    at: usize,
+    answer: Answer,
+    line: &[u64],
+    ram: &[u8],
+    numbers: &[u64],
+) -> usize {
+    let refused = answer.number() != 0;
+    let count = if refused { 0 } else { sounding::count(line) };
+    let end = fields::put_given(&mut *out, at, answered(answer, line, ram), refused);
+    fields::put_numbers(out, end, numbers, count)
 }
 
-// Puts a line's voice.
+// Puts the voice that a D line names.
 fn put_voice(
     out: &mut [u8],
     at: usize,
@@ -53,29 +62,7 @@ fn put_voice(
 ) -> usize {
     let k = num::least(lent.core, LAST_CORE);
     let q = num::least(lent.queues, queues.len());
-    let core = chip.cores[k];
-    fields::put_voice(core, k, line, &queues[..q], out, at)
-}
-
-// Puts a line's answer behind its letter.
-fn put_behind(
-    out: &mut [u8],
-    at: usize,
-    called: Called,
-    lent: Lent,
-    line: &[u64],
-    ram: &[u8],
-    queues: &[i16],
-    numbers: &[u64],
-) -> usize {
-    let answer = called.answer;
-    match fields::letter(line) {
-        b'A' | b'O' | b'U' | b'u' | b'K' => {
-            fields::put_told(line, num::part(ram, 0, lent.ram), out, at)
-        }
-        b'D' => put_voice(out, at, called.chip, lent, line, queues),
-        _ => put_answer(out, at, answer, line, numbers),
-    }
+    fields::put_voice(chip.cores[k], k, line, &queues[..q], out, at)
 }
 
 // Writes the answers before a place where another may not fit behind them, and puts a line's answer.
@@ -89,8 +76,11 @@ pub(crate) fn put(
     queues: &[i16],
     numbers: &[u64],
 ) -> usize {
+    let answer = called.answer;
+    let bytes = num::part(ram, 0, lent.ram);
     let first = program::flush(&*out, end, ANSWER_ROOM);
-    let at = decimal::put_byte(&mut *out, first, fields::letter(line));
-    let last = put_behind(&mut *out, at, called, lent, line, ram, queues, numbers);
-    decimal::put_byte(out, last, 10)
+    let second = decimal::put_byte(&mut *out, first, fields::letter(line));
+    let third = put_answer(&mut *out, second, answer, line, bytes, numbers);
+    let fourth = put_voice(&mut *out, third, called.chip, lent, line, queues);
+    decimal::put_byte(out, fourth, 10)
 }

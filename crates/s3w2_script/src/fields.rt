@@ -23,9 +23,15 @@ pub(crate) use sounds::fill_sides;
 pub(crate) use sounds::fill_wide_sides;
 pub(crate) use sounds::keep_sides;
 pub(crate) use sounds::keep_wide_sides;
-pub(crate) use telling::put_told;
+pub(crate) use telling::told;
 pub(crate) use writing::flag_number;
-pub(crate) use writing::put;
-pub(crate) use writing::put_number;
+pub(crate) use writing::one;
+pub(crate) use writing::put_given;
 pub(crate) use writing::put_numbers;
 pub(crate) use writing::sample_bits;
+
+// The numbers of an answer: so many, the first of these.
+pub(crate) struct Given {
+    pub numbers: [u64; 2],
+    pub count: usize,
+}

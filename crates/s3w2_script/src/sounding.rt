@@ -17,17 +17,31 @@ struct Lengths {
     right: usize,
 }
 
+fn both(n: usize) -> Lengths {
+    Lengths { left: n, right: n }
+}
+
 fn asked_lengths(line: &[u64]) -> Lengths {
-    if fields::letter(line) == b'S' {
-        return Lengths {
+    let frames = fields::size(line, 1);
+    match fields::letter(line) {
+        b's' => both(frames % AT_ONCE),
+        b'S' => Lengths {
             left: num::least(fields::size(line, 2), STEMS),
             right: 0,
-        };
+        },
+        _ => Lengths {
+            left: num::least(frames, SIDE),
+            right: num::least(fields::size(line, 2), SIDE),
+        },
     }
-    Lengths {
-        left: num::least(fields::size(line, 1), SIDE),
-        right: num::least(fields::size(line, 2), SIDE),
+}
+
+// How often AT_ONCE frames more are clocked.
+fn more_turns(line: &[u64]) -> usize {
+    if fields::letter(line) == b's' {
+        return fields::size(line, 1) / AT_ONCE;
     }
+    0
 }
 
 // How many numbers a line's frames give.
@@ -134,16 +148,17 @@ fn wide_sides(
     )
 }
 
-fn both(n: usize) -> Lengths {
-    Lengths { left: n, right: n }
-}
-
-// All frames that a line asks for, the odd ones first, over zeroed sides whose values are added to the first two numbers.
-fn summed(chip: Chip, line: &[u64], ram: &[u8], queues: &mut [i16], numbers: &mut [u64]) -> Called {
-    let frames = fields::size(line, 1);
-    let odd = frames % AT_ONCE;
-    let mut called = sides(chip, line, both(odd), ram, &mut *queues, &mut *numbers);
-    for _ in 0..frames / AT_ONCE {
+// The frames that a line asks for; where their values are only summed, the odd ones first.
+fn turns(chip: Chip, line: &[u64], ram: &[u8], queues: &mut [i16], numbers: &mut [u64]) -> Called {
+    let mut called = sides(
+        chip,
+        line,
+        asked_lengths(line),
+        ram,
+        &mut *queues,
+        &mut *numbers,
+    );
+    for _ in 0..more_turns(line) {
         called = sides(
             called.chip,
             line,
@@ -166,7 +181,6 @@ pub(crate) fn sounded(
 ) -> Called {
     match fields::letter(line) {
         b'y' => wide_sides(chip, line, ram, queues, numbers),
-        b's' => summed(chip, line, ram, queues, numbers),
-        _ => sides(chip, line, asked_lengths(line), ram, queues, numbers),
+        _ => turns(chip, line, ram, queues, numbers),
     }
 }

@@ -1,4 +1,5 @@
 // A voice's state, printed whole.
+use crate::fields::reading::letter;
 use crate::fields::reading::size;
 use crate::fields::setting::ring_of;
 use crate::fields::writing;
@@ -145,7 +146,7 @@ fn put_last(core: Core, voice: usize, queues: &[i16], out: &mut [u8], at: usize)
     writing::put_samples(out, end, &core.fragments, 128 * ch, 128 * ch + 128)
 }
 
-// Puts a line's voice, of the core of a number.
+// Puts the voice that a D line names, of the core of a number; of another line nothing.
 pub(crate) fn put_voice(
     core: Core,
     number: usize,
@@ -154,6 +155,9 @@ pub(crate) fn put_voice(
     out: &mut [u8],
     at: usize,
 ) -> usize {
+    if letter(line) != b'D' {
+        return at;
+    }
     let k = size(line, 1) % 8;
     let end = put_first(core, k, &mut *out, at);
     put_last(core, 8 * (number % 2) + k, queues, out, end)

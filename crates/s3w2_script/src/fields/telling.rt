@@ -1,4 +1,5 @@
 // What lines tell of no chip.
+use crate::fields::Given;
 use crate::fields::reading::byte;
 use crate::fields::reading::letter;
 use crate::fields::reading::word;
@@ -43,8 +44,7 @@ fn saturated(line: &[u64]) -> u64 {
     writing::sample_bits(tone::saturate_output(x))
 }
 
-// A number that a line tells.
-fn told(line: &[u64], ram: &[u8]) -> u64 {
+fn number_told(line: &[u64], ram: &[u8]) -> u64 {
     match letter(line) {
         b'A' => absolute(line) as u64,
         b'O' => saturated(line),
@@ -53,12 +53,17 @@ fn told(line: &[u64], ram: &[u8]) -> u64 {
     }
 }
 
-// Puts what a line tells: a number, or of a version two.
-pub(crate) fn put_told(line: &[u64], ram: &[u8], out: &mut [u8], at: usize) -> usize {
+// What a line tells: a number, or of a version two.
+pub(crate) fn told(line: &[u64], ram: &[u8]) -> Given {
     if letter(line) != b'u' {
-        return writing::put_number(out, at, told(line, ram));
+        return writing::one(number_told(line, ram));
     }
     let version = crate::fields::reading::version(line);
-    let end = writing::put(&mut *out, at, version.core_count() as u64);
-    writing::put(out, end, writing::flag_number(version.has_34si22()))
+    Given {
+        numbers: [
+            version.core_count() as u64,
+            writing::flag_number(version.has_34si22()),
+        ],
+        count: 2,
+    }
 }

@@ -1,4 +1,5 @@
 // An answer's fields, each after a comma, and samples as numbers.
+use crate::fields::Given;
 
 // A number in two's complement.
 pub(crate) fn bits(x: i32) -> u64 {
@@ -7,6 +8,14 @@ pub(crate) fn bits(x: i32) -> u64 {
         return std::num::wrapping_sub_u64(0, size);
     }
     size
+}
+
+// An answer of one number.
+pub(crate) fn one(n: u64) -> Given {
+    Given {
+        numbers: [n, 0],
+        count: 1,
+    }
 }
 
 pub(crate) fn flag_number(x: bool) -> u64 {
@@ -20,7 +29,7 @@ pub(crate) fn put(out: &mut [u8], at: usize, n: u64) -> usize {
 }
 
 // Puts any number.
-pub(crate) fn put_number(out: &mut [u8], at: usize, n: u64) -> usize {
+fn put_number(out: &mut [u8], at: usize, n: u64) -> usize {
     if n < 0x8000_0000_0000_0000 {
         return put(out, at, n);
     }
@@ -35,6 +44,16 @@ pub(crate) fn put_numbers(out: &mut [u8], at: usize, numbers: &[u64], count: usi
         end = put_number(&mut *out, end, numbers[i]);
     }
     end
+}
+
+// Puts an answer's numbers; of a refusal its word before them.
+pub(crate) fn put_given(out: &mut [u8], at: usize, given: Given, refused: bool) -> usize {
+    let numbers = given.numbers;
+    if refused {
+        let end = decimal::put_text(&mut *out, at, b",no");
+        return put_numbers(out, end, &numbers, given.count);
+    }
+    put_numbers(out, at, &numbers, given.count)
 }
 
 pub(crate) fn sample_bits(x: i16) -> u64 {

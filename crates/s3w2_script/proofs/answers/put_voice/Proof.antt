@@ -10,11 +10,11 @@ least-requires c κs = search needs
 least-requires-2 : tie.Need-least-requires-2
 least-requires-2 c κs = search needs
 
-mul-core : tie.Need-mul-core
-mul-core c = search needs
+mul-put-voice : tie.Need-mul-put-voice
+mul-put-voice c = search needs
 
-element-copy-out-core : tie.Need-element-copy-out-core
-element-copy-out-core c = search needs
+element-copy-out-put-voice : tie.Need-element-copy-out-put-voice
+element-copy-out-put-voice c = search needs
 
 slice-aggregate-put-voice : tie.Need-slice-aggregate-put-voice
 slice-aggregate-put-voice c = sym (length-take-le _ _ (search needs))
@@ -34,8 +34,8 @@ put-voice-spec =
     (tie.spec
     least-requires
     least-requires-2
-    mul-core
-    element-copy-out-core
+    mul-put-voice
+    element-copy-out-put-voice
     slice-aggregate-put-voice
     put-voice-requires
     same-length

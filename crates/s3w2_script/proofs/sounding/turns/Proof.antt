@@ -2,29 +2,29 @@ use mathlib.Core.Path.{_≡_}
 use Prim.Native.Nat.{_-_}
 use lib.ListN.{length}
 use borrow.Author.Needs.{needs}
-use Rattle.s3w2_script.proofs.sounding.summed.Statement.{statement}
-use Rattle.s3w2_script.proofs.sounding.summed.Tie as tie
+use Rattle.s3w2_script.proofs.sounding.turns.Statement.{statement}
+use Rattle.s3w2_script.proofs.sounding.turns.Tie as tie
 
 abbrev Inv-loop : tie.InvT-loop
-Inv-loop line ram queues₀ numbers₀ frames odd called₀ counter₀ end queues numbers called counter = (length queues ≡ length queues₀) × (length numbers ≡ length numbers₀)
+Inv-loop line ram queues₀ numbers₀ called₀ counter₀ end queues numbers called counter = (length queues ≡ length queues₀) × (length numbers ≡ length numbers₀)
 
 abbrev μ-loop : tie.MeasureT-loop
-μ-loop line ram queues₀ numbers₀ frames odd called₀ counter₀ end queues numbers called counter = end - counter
+μ-loop line ram queues₀ numbers₀ called₀ counter₀ end queues numbers called counter = end - counter
 
-size-requires : tie.Need-size-requires Inv-loop μ-loop
-size-requires c κs = search needs
-
-both-requires : tie.Need-both-requires Inv-loop μ-loop
-both-requires c κs = search needs
+asked-lengths-requires : tie.Need-asked-lengths-requires Inv-loop μ-loop
+asked-lengths-requires c κs = search needs
 
 sides-requires : tie.Need-sides-requires Inv-loop μ-loop
 sides-requires c κs = search needs
 
+more-turns-requires : tie.Need-more-turns-requires Inv-loop μ-loop
+more-turns-requires c κs = search needs
+
 loop-holds : tie.Need-loop-holds Inv-loop μ-loop
 loop-holds c = search needs
 
-both-requires-2 : tie.Need-both-requires-2 Inv-loop μ-loop
-both-requires-2 c κs = search needs
+both-requires : tie.Need-both-requires Inv-loop μ-loop
+both-requires c κs = search needs
 
 sides-requires-2 : tie.Need-sides-requires-2 Inv-loop μ-loop
 sides-requires-2 c κs = search needs
@@ -47,17 +47,17 @@ same-length-2 c = search needs
 returns : tie.Need-returns Inv-loop μ-loop
 returns c = search needs
 
-pub summed-spec : {M : Type 1} → statement M
-summed-spec =
+pub turns-spec : {M : Type 1} → statement M
+turns-spec =
     tie.close
     (tie.spec
     Inv-loop
     μ-loop
-    size-requires
-    both-requires
+    asked-lengths-requires
     sides-requires
+    more-turns-requires
     loop-holds
-    both-requires-2
+    both-requires
     sides-requires-2
     add-counter
     loop-less
