@@ -27,7 +27,7 @@ use Rattle.pair_chip.proofs.Pairs.{pair_seen, Alike, alike-reset, alike-set-vers
 use Rattle.call_lists.specs.Runs.{Outcome}
 use Rattle.call_lists.specs.Mixing.{served, mixed_side, cleared_to}
 use Rattle.call_lists.specs.Texts.{Texts, TextsOk, Told, VoiceRead, voice, queued, HeadRead, head, sized}
-use Rattle.call_lists.specs.Calls.{Call, reset, set_version, reset_channel, write_register, read_register, peek_register, write_channel_control, read_channel_control, write_channel_pcm_reg, read_channel_pcm_reg, write_channel_wavetable, read_channel_wavetable, wavetable_length, interpolates, write_pcm_ram, read_pcm_ram, generate_sample, clock, clock_mixed, clock_mixed_into, clock_mixed_into_i32, write_head, read_head, write_voice, read_voice, read_stored_voice, Reply, done, byte, count, flag, sample, ended, CallAnswer, replies, plays, line_answer, gives, ended-at, ended_in, mixes, head_told, voice_told, run}
+use Rattle.call_lists.specs.Calls.{Call, reset, set_version, reset_channel, write_register, read_register, peek_register, write_channel_control, read_channel_control, write_channel_pcm_reg, read_channel_pcm_reg, write_channel_wavetable, read_channel_wavetable, wavetable_length, interpolates, write_pcm_ram, read_pcm_ram, generate_sample, clock, clock_mixed, clock_mixed_into, clock_mixed_into_i32, write_head, read_head, write_voice, read_voice, read_stored_voice, Reply, done, byte, count, flag, sample, ended, CallAnswer, replies, plays, line_answer, gives, ended_at, ended_in, mixes, head_told, voice_told, run}
 use Rattle.call_lists.specs.Seen.{FitCall}
 
 module _ {A B : Type 0} {g : A → B} {P : SguVersion → List ℕ → A → Type 0} {a : Model A} {b : Model B} (sim : Sim g P a b) (t : Texts) (texts : TextsOk t) where
@@ -64,12 +64,12 @@ module _ {A B : Type 0} {g : A → B} {P : SguVersion → List ℕ → A → Typ
     both f u h k = record { next = same-all sim c ok (f A a) (f B b) (u A a) (u B b) h; answer = refl; ok = ok-all sim c ok (f A a) (u A a) k }
 
     -- voices turned off: the chip after the call is seen as one chip over the other model
-    ended-at : (e : Pair A) (f : Pair B) → pair_seen g e ≡ f → (core ch : ℕ) → ended-at a t c e core ch ≡ ended-at b t d f core ch
+    ended-at : (e : Pair A) (f : Pair B) → pair_seen g e ≡ f → (core ch : ℕ) → ended_at a t c e core ch ≡ ended_at b t d f core ch
     ended-at e f n core ch =
         ap₂ (λ (x y : PlainVoice). off x.pcm.active y.pcm.active) (same-fields sim c core ch) (same-fields sim e core ch ∙ ap (λ (z : Pair B). fields_at b z core ch) n)
 
     ended-in : (e : Pair A) (f : Pair B) → pair_seen g e ≡ f → ended_in a t c e ≡ ended_in b t d f
-    ended-in e f n = set_same chip_voices (λ v. ended-at a t c e (v / num_channels) (v % num_channels)) (λ v. ended-at b t d f (v / num_channels) (v % num_channels)) (λ v h. ended-at e f n (v / num_channels) (v % num_channels))
+    ended-in e f n = set_same chip_voices (λ v. ended_at a t c e (v / num_channels) (v % num_channels)) (λ v. ended_at b t d f (v / num_channels) (v % num_channels)) (λ v h. ended-at e f n (v / num_channels) (v % num_channels))
 
     -- frames, with what is answered of them
     frames : (n : ℕ) (x y : CallAnswer) → x ≡ y → Same (gives a t (framed a n c) x) (gives b t (framed b n d) y)

@@ -16,7 +16,7 @@ use Rattle.line_fields.specs.Text.{written_of, put_of, line_text}
 use Rattle.line_fields.specs.declared.Written.TheVariants as lines
 use Rattle.version.specs.declared.SguVersion.{SguVersion}
 use Rattle.session_lines.specs.Numbers.{field_numbers}
-use Rattle.session_lines.specs.Lines.{NumberedVoice, voice_text, ReadVoice, voice, malformed, queued, read-as, channel_after, table_after}
+use Rattle.session_lines.specs.Lines.{NumberedVoice, voice_text, ReadVoice, voice, malformed, queued, read_as, channel_after, table_after}
 use Rattle.session_lines.proofs.Taken.{read_told}
 use Rattle.session_lines.specs.Head.{head_text, read_head}
 use Rattle.session_lines.specs.declared.HeadLine.{HeadLine}
@@ -46,7 +46,7 @@ use Rattle.call_lists.specs.Runs.{Outcome}
 use Rattle.call_lists.specs.Texts.{Told}
 use Rattle.call_lists.specs.Calls as list
 use Rattle.call_lists.specs.Calls.{Call, run}
-use Rattle.session_texts.specs.Session.{session, plain_voice_of, plain_text, head-read, voice_read}
+use Rattle.session_texts.specs.Session.{session, plain_voice_of, plain_text, head_read, voice_read}
 use Rattle.session_texts.proofs.Written.{text-plain}
 use Rattle.session_texts.proofs.Read.{channel-told, loaded-told, session-is-ok}
 use Rattle.chip_calls.specs.Ties.{slot_pair, GoodMachine, wrote_by, read_by}
@@ -132,7 +132,7 @@ module _ (chip : Chip) (ram : List ℕ) (queues : List ℤ) (held : GoodMachine 
   unfolding run
   set_told other = let t = tied-version session chip ram queues held other in record { next = t.next; answer = refl; allowed = t.allowed; sized = t.sized; long = t.long }
 
-  head-told : (r : HeadLine) → Agrees (read_by (head_called chip (length ram) r) ram queues) (list.head_told slots session w (head-read r))
+  head-told : (r : HeadLine) → Agrees (read_by (head_called chip (length ram) r) ram queues) (list.head_told slots session w (head_read r))
   head-told (heads.Version other) = set_told other
   head-told (heads.Sized other size) = either (eqb size (length ram)) _ _ _ _ (set_told other) (stays session chip ram queues held _ _ refl refl)
   head-told (heads.Malformed field) = stays session chip ram queues held _ _ refl refl
@@ -186,11 +186,11 @@ module _ (chip : Chip) (ram : List ℕ) (queues : List ℤ) (held : GoodMachine 
   voice-told queued t is = stays session chip ram queues held _ _ refl refl
 
   -- as a stored line or as any
-  tied-read : (stored : Bool) (text : List ℕ) → Told version (voice_read (read-as stored version text)) → Agrees (read_by (voice_read_called stored chip queues text) ram (voice_read_queues stored chip queues text)) (list.voice_told slots session w (voice_read (read-as stored version text)))
+  tied-read : (stored : Bool) (text : List ℕ) → Told version (voice_read (read_as stored version text)) → Agrees (read_by (voice_read_called stored chip queues text) ram (voice_read_queues stored chip queues text)) (list.voice_told slots session w (voice_read (read_as stored version text)))
   unfolding voice_read_called voice_read_queues
   tied-read stored text t =
       read-as _ _ _ _ _ (with-queues _ (answers.line_answered chip NotAccepted) (answers.line_answered chip QueueBuffer)) (with-queues _ queues queues)
-      (voice-told (read-as stored version text) t (λ v e. channel-told version v (read_told stored version text v e)))
+      (voice-told (read_as stored version text) t (λ v e. channel-told version v (read_told stored version text v e)))
 
   pub tied-read-voice : (text : List ℕ) → Agrees (read_by (read_voice_called chip queues text) ram (read_voice_queues chip queues text)) (ran (list.read_voice text))
   unfolding run

@@ -14,7 +14,7 @@ use Rattle.cores.specs.Sizes.{chip_queues, chip_stems}
 use Rattle.cores.specs.Stems.{paired}
 use Rattle.num.specs.Lists.{part}
 use Rattle.tone.specs.Pcm.{is_ram_length}
-use Rattle.version.specs.Versions.{version-of, core_count}
+use Rattle.version.specs.Versions.{version_of, core_count}
 use Rattle.voices.proofs.Widths.{part-sets-in}
 use Rattle.frames.specs.declared.Asked.{Asked}
 use Rattle.frames.specs.declared.Asked.TheVariants as variants
@@ -26,7 +26,7 @@ use Rattle.s3w2.specs.declared.Answer.TheVariants.{Done}
 use Rattle.s3w2.specs.Answers.{unless, answered}
 use Rattle.s3w2.specs.Chips.{core_at, core_queues}
 use Rattle.s3w2.specs.Refusals.{accepts_chip, refusal, sound_refusal, clock_refusal}
-use Rattle.chip_lists.specs.Plays.{Playing, shown_by, stems_played, clock_played, call-played, calls_played}
+use Rattle.chip_lists.specs.Plays.{Playing, shown_by, stems_played, clock_played, call_played, calls_played}
 use Rattle.s3w2.specs.Registers.{read_register_called, peek_register_answer}
 use Rattle.chip_sound.specs.Sound.{silent_turns, core_frames, clock_called, clock_stems}
 use Rattle.call_lists.specs.Runs.{after}
@@ -56,13 +56,13 @@ module _ (kinds addresses : List ℕ) (m : Machine) (cs : List Call) (n : ℕ) (
   look-more true = refl
   look-more false = refl
 
-  call-more : (t : Asked) → after code m (cs ++ single_call kinds addresses t n b) ≡ of_playing (call-played kinds addresses t n b)
+  call-more : (t : Asked) → after code m (cs ++ single_call kinds addresses t n b) ≡ of_playing (call_played kinds addresses t n b)
   unfolding code
   call-more variants.WriteRegister = one_more (write_register 0 a (get_or b.values n 0))
   call-more variants.WritePcmRam = one_more (write_pcm_ram a (get_or b.values n 0))
   call-more variants.Look = let t = eqb (get_or kinds n 0) read_register_kind in one_more (cond t (read_register 0 a) (peek_register 0 a)) ∙ look-more t
   call-more variants.Clock = one_more (clock a (clear_stems a)) ∙ ap (λ (m : ℕ). machine (clock_called b.chip b.ram b.queues a m).chip b.ram b.queues) (length-replicate (chip_stems * a) (pos 0))
-  call-more variants.SetVersion = one_more (set_version (version-of a))
+  call-more variants.SetVersion = one_more (set_version (version_of a))
   call-more variants.Nothing = ap (after code m) (append-nil cs) ∙ ih
 
 pub calls-listed : (kinds addresses : List ℕ) (s : Playing) (n : ℕ) → after code (of_playing s) (single_calls kinds addresses n s) ≡ of_playing (calls_played kinds addresses n s)

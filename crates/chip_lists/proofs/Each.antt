@@ -20,7 +20,7 @@ use Rattle.frames.proofs.Parts.{part_length}
 use Rattle.s3w2.specs.declared.Chip.{Chip}
 use Rattle.s3w2.specs.Refusals.{accepts_chip}
 use Rattle.s3w2.specs.Chips.{core_at}
-use Rattle.chip_lists.specs.Plays.{Playing, playing, call-played, calls_played, all_played}
+use Rattle.chip_lists.specs.Plays.{Playing, playing, call_played, calls_played, all_played}
 use Rattle.chip_lists.specs.Second.{Lends, Leaves}
 use Rattle.chip_lists.proofs.Parts.{one_at}
 use Rattle.chip_lists.proofs.SecondCalls.{one-frames}
@@ -173,7 +173,7 @@ module _ (kinds addresses : List ℕ) (start : Playing) (l : Lends kinds address
             is =
                 (λ j. record { chip = chips j; ram = rams j; queues = entries j; values = put-values j; stems = put-stems j; others = put-others j; frames = next-frames j })
                 ∙ slice-played s i inside kinds addresses (omega (arith, h, er, g.behind)) (omega (arith, k, er, g.behind))
-                ∙ ap (call-played kinds addresses (asked_of (get_or kinds i 0)) i) g.is ∙ sym (ap (λ (m : ℕ). calls_played kinds addresses m start) (add-one i));
+                ∙ ap (call_played kinds addresses (asked_of (get_or kinds i 0)) i) g.is ∙ sym (ap (λ (m : ℕ). calls_played kinds addresses m start) (add-one i));
             accepted = d.accepted;
             bytes = lr ∙ g.bytes;
             entries = lq ∙ g.entries;

@@ -21,7 +21,7 @@ use Rattle.frames.specs.Listing.{asked_of, Listed, lent_list, call_as}
 use Rattle.frames.specs.Turning.{Turns, frames, no_turn}
 use Rattle.s3w2.specs.declared.Chip.{Chip}
 use Rattle.s3w2.specs.Chips.{core_at, no_core}
-use Rattle.chip_lists.specs.Plays.{Playing, playing, call-played, calls_played}
+use Rattle.chip_lists.specs.Plays.{Playing, playing, call_played, calls_played}
 use Rattle.chip_lists.specs.Second.{Lends, Leaves, second_called, SecondLeaves}
 use Rattle.chip_lists.proofs.Parts.{lower_long, upper_long}
 use Rattle.chip_lists.proofs.Plays.{as_playing, call-played}
@@ -123,7 +123,7 @@ module _ (kinds addresses : List ℕ) (chip : Chip) (ram : List ℕ) (queues : L
         let same-core : other ≡ (second ram t).core = k.core_is ∙ ap (λ (u : Turns). u.core) n.same in
         let same-stems : others2 ≡ sets others 0 (second ram t).stems = k.others-is ∙ ap (λ (u : Turns). sets others 0 u.stems) n.same in
         let ram-last : ram2 ≡ X.ram = k.ram-is ∙ n.ram-same in
-        let whole = sym (ap (call-played kinds addresses t 0) (playing-as chip ram queues values stems others two) ∙ call-played stems others upper first b [] 0 g.allowed (lower_long queues g.lent) (upper_long queues g.lent) g.accepted refl refl kinds addresses t 0) in
+        let whole = sym (ap (call_played kinds addresses t 0) (playing-as chip ram queues values stems others two) ∙ call-played stems others upper first b [] 0 g.allowed (lower_long queues g.lent) (upper_long queues g.lent) g.accepted refl refl kinds addresses t 0) in
         let under-is : under ≡ X.version = f.version-is ∙ ap (λ (x : Listed). x.version) (sym f.is) in
         let next-is : next ≡ X.core = f.core_is ∙ ap (λ (x : Listed). x.core) (sym f.is) in
         let lower-is : lower ≡ X.queues = f.lower-is ∙ ap (λ (x : Listed). x.queues) (sym f.is) in

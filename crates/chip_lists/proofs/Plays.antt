@@ -14,7 +14,7 @@ use Rattle.cores.specs.Sizes.{chip_queues, chip_stems}
 use Rattle.num.specs.Lists.{part}
 use Rattle.num.proofs.Lists.{sets-append}
 use Rattle.tone.specs.Pcm.{is_ram_length}
-use Rattle.version.specs.Versions.{version-of, core_count}
+use Rattle.version.specs.Versions.{version_of, core_count}
 use Rattle.version.specs.declared.SguVersion.{SguVersion}
 use Rattle.voices.specs.Core.{set_core_version}
 use Rattle.voices.specs.Reads.{peek_register, after_read_register}
@@ -38,7 +38,7 @@ use Rattle.s3w2.specs.Fresh.{set_version_called}
 use Rattle.s3w2.specs.Ram.{write_pcm_ram_called, write_pcm_ram_ram}
 use Rattle.s3w2.specs.Registers.{write_register_called, write_register_buffer, read_register_called, peek_register_answer}
 use Rattle.chip_sound.specs.Sound.{silent_turns, core_frames, framed, framed_ended, clock_called}
-use Rattle.chip_lists.specs.Plays.{Playing, register_played, byte_played, shown_by, stems_played, clock_played, version_played, call-played}
+use Rattle.chip_lists.specs.Plays.{Playing, register_played, byte_played, shown_by, stems_played, clock_played, version_played, call_played}
 use Rattle.chip_lists.specs.Second.{second_called}
 use Rattle.s3w2.proofs.Longer.{ram-small, accepts-longer}
 use Rattle.s3w2.proofs.Refused.{nothing-amiss}
@@ -195,11 +195,11 @@ module _ (stems₀ others₀ upper : List ℤ) where
 
     -- whatever it asks for
     pub call-played : (kinds addresses : List ℕ) (t : Asked) (i : ℕ)
-        → call-played kinds addresses t i (as_playing x b o f) ≡ as_playing (call_as kinds addresses 0 4 t i x) (second_called x.version x.ram upper t (get_or addresses i 0) b).core
+        → call_played kinds addresses t i (as_playing x b o f) ≡ as_playing (call_as kinds addresses 0 4 t i x) (second_called x.version x.ram upper t (get_or addresses i 0) b).core
         (o ++ (second_called x.version x.ram upper t (get_or addresses i 0) b).stems) (f + clocked_as t (get_or addresses i 0))
     call-played kinds addresses variants.WriteRegister i = register-played (get_or addresses i 0) (get_or x.values i 0) ∙ still (written x (get_or addresses i 0) (get_or x.values i 0)) b
     call-played kinds addresses variants.WritePcmRam i = byte-played (get_or addresses i 0) (get_or x.values i 0) ∙ still (byte_stored x (get_or addresses i 0) (get_or x.values i 0)) _
     call-played kinds addresses variants.Look i = look-played i (get_or addresses i 0) (eqb (get_or kinds i 0) read_register_kind) ∙ still (looked x i (get_or addresses i 0) (eqb (get_or kinds i 0) read_register_kind)) b
     call-played kinds addresses variants.Clock i = clock-played (get_or addresses i 0)
-    call-played kinds addresses variants.SetVersion i = version-played (version-of (get_or addresses i 0)) ∙ still (under_version x (version-of (get_or addresses i 0))) _
+    call-played kinds addresses variants.SetVersion i = version-played (version_of (get_or addresses i 0)) ∙ still (under_version x (version_of (get_or addresses i 0))) _
     call-played kinds addresses variants.Nothing i = still x b

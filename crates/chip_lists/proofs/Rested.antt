@@ -13,7 +13,7 @@ use Rattle.sizes.specs.Sizes.{queue_buffer, stems_per_frame}
 use Rattle.cores.specs.Sizes.{num_cores}
 use Rattle.num.proofs.Choice.{together}
 use Rattle.tone.specs.Pcm.{is_ram_length}
-use Rattle.version.specs.Versions.{version-of, core_count}
+use Rattle.version.specs.Versions.{version_of, core_count}
 use Rattle.version.specs.declared.SguVersion.{SguVersion}
 use Rattle.voices.specs.Accepted.{accepts_core, SizedCore}
 use Rattle.voices.specs.declared.Core.{Core}
@@ -31,7 +31,7 @@ use Rattle.rest.proofs.Resting.{rest-frames, rest-ram, rest-version, rest-accept
 use Rattle.s3w2.specs.declared.Chip.{Chip}
 use Rattle.s3w2.specs.Chips.{core_at}
 use Rattle.chip_sound.specs.Sound.{silent_turns}
-use Rattle.chip_lists.specs.Plays.{Playing, playing, call-played, calls_played, all_played}
+use Rattle.chip_lists.specs.Plays.{Playing, playing, call_played, calls_played, all_played}
 use Rattle.chip_lists.specs.Second.{Lends, Leaves, second_called}
 use Rattle.s3w2.proofs.Fits.{core-accepts}
 use Rattle.chip_lists.proofs.Parts.{lower_long, upper_long}
@@ -80,7 +80,7 @@ module _ (b : Core) (r : rests b ≡ true) (z : SizedCore b) where
   second-rests version ram queues variants.WritePcmRam a = ap no_turn (same-core (ltb a (length ram)) _ (rest-ram b r a))
   second-rests version ram queues variants.Look a = refl
   second-rests version ram queues variants.Clock a = either (ltb 1 (core_count version)) (frames version ram queues a b) (silent_turns a b) (rest-frames b r version ram queues a)
-  second-rests version ram queues variants.SetVersion a = ap no_turn (rest-version b r z (version-of a))
+  second-rests version ram queues variants.SetVersion a = ap no_turn (rest-version b r z (version_of a))
   second-rests version ram queues variants.Nothing a = refl
 
   -- ---- all calls
@@ -107,7 +107,7 @@ module _ (b : Core) (r : rests b ≡ true) (z : SizedCore b) where
         let a = get_or addresses n 0 in
         let long = list-long kinds addresses 0 n l in
         let ok = together (accepts_core x.core x.version (length x.ram)) (accepts_core b x.version (length x.ram)) (fine n (omega arith)) (rest-accepted b r z x.version (length x.ram)) in
-        ap (call-played kinds addresses t n) (list-rests n (omega arith))
+        ap (call_played kinds addresses t n) (list-rests n (omega arith))
         ∙ call-played stems others upper x b (zeros (asks n)) (asks n) (ap is_ram_length k.0 ∙ allowed) (k.1 ∙ low) high ok (omega (arith, long, fresh)) (length-replicate (stems_per_frame * asks n) (pos 0)) kinds addresses t n
         ∙ ap (λ (u : Turns). as_playing stems others upper (call_as kinds addresses 0 4 t n x) u.core (zeros (asks n) ++ u.stems) (asks n + clocked_as t a)) (second-rests x.version x.ram upper t a)
         ∙ ap (λ (g : List ℤ). as_playing stems others upper (call_as kinds addresses 0 4 t n x) b g (asks n + clocked_as t a)) (zeros-more (asks n) (clocked_as t a))

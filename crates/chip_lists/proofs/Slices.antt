@@ -11,7 +11,7 @@ use lib.Seq.{sets, take-take}
 use Rattle.sizes.specs.Sizes.{stems_per_frame}
 use Rattle.num.specs.Lists.{part}
 use Rattle.num.proofs.Choice.{cond-by}
-use Rattle.version.specs.Versions.{version-of, core_count}
+use Rattle.version.specs.Versions.{version_of, core_count}
 use Rattle.frames.specs.declared.Asked.{Asked}
 use Rattle.frames.specs.declared.Asked.TheVariants as variants
 use Rattle.frames.specs.Listing.{read_register_kind, asked_of, clocked_as, clocked_by}
@@ -23,7 +23,7 @@ use Rattle.s3w2.specs.Refusals.{sound_refusal}
 use Rattle.s3w2.specs.Chips.{core_at, core_queues}
 use Rattle.s3w2.specs.Registers.{read_register_called, peek_register_answer}
 use Rattle.chip_sound.specs.Sound.{silent_turns, core_frames}
-use Rattle.chip_lists.specs.Plays.{Playing, playing, register_played, byte_played, shown_by, stems_played, clock_played, version_played, call-played, calls_played}
+use Rattle.chip_lists.specs.Plays.{Playing, playing, register_played, byte_played, shown_by, stems_played, clock_played, version_played, call_played, calls_played}
 use Rattle.chip_lists.proofs.Parts.{part-one, one_at}
 use Rattle.chip_sound.proofs.Runs.{sets-all}
 
@@ -34,10 +34,10 @@ asked-for variants.WritePcmRam kind address value i s = byte_played s address va
 asked-for variants.Look kind address value i s =
     shown_by s i (cond (eqb kind read_register_kind) (read_register_called s.chip 0 address) (answered s.chip (peek_register_answer s.chip 0 address)))
 asked-for variants.Clock kind address value i s = clock_played s address
-asked-for variants.SetVersion kind address value i s = version_played s (version-of address)
+asked-for variants.SetVersion kind address value i s = version_played s (version_of address)
 asked-for variants.Nothing kind address value i s = s
 
-played-for : (kinds addresses : List ℕ) (t : Asked) (i : ℕ) (s : Playing) → call-played kinds addresses t i s ≡ asked-for t (get_or kinds i 0) (get_or addresses i 0) (get_or s.values i 0) i s
+played-for : (kinds addresses : List ℕ) (t : Asked) (i : ℕ) (s : Playing) → call_played kinds addresses t i s ≡ asked-for t (get_or kinds i 0) (get_or addresses i 0) (get_or s.values i 0) i s
 played-for kinds addresses variants.WriteRegister i s = refl
 played-for kinds addresses variants.WritePcmRam i s = refl
 played-for kinds addresses variants.Look i s = refl
@@ -110,17 +110,17 @@ module _ (s : Playing) (i : ℕ) (inside : i < length s.values) where
       let a = stems-back address 0 s.stems h in
       let b = stems-back address 1 s.others k in
       λ j. record { chip = d.chip; ram = d.ram; queues = d.queues; values = values-back j; stems = a j; others = b j; frames = f + address }
-  call_back variants.SetVersion kind address value h k = quiet (version_played s (version-of address))
+  call_back variants.SetVersion kind address value h k = quiet (version_played s (version_of address))
   call_back variants.Nothing kind address value h k = quiet s
 
   pub slice-played : (kinds addresses : List ℕ) → stems_per_frame * s.frames + stems_per_frame * clocked_by kinds addresses i ≤ length s.stems → stems_per_frame * s.frames + stems_per_frame * clocked_by kinds addresses i ≤ length s.others
-      → back_into s i (clocked_by kinds addresses i) (calls_played (part kinds i 1) (part addresses i 1) 1 (parts s i (clocked_by kinds addresses i))) ≡ call-played kinds addresses (asked_of (get_or kinds i 0)) i s
+      → back_into s i (clocked_by kinds addresses i) (calls_played (part kinds i 1) (part addresses i 1) 1 (parts s i (clocked_by kinds addresses i))) ≡ call_played kinds addresses (asked_of (get_or kinds i 0)) i s
   unfolding calls_played
   slice-played kinds addresses h k =
       let t = asked_of (get_or kinds i 0) in
       let n = clocked_by kinds addresses i in
       let own = parts s i n in
       ap (back_into s i n)
-      (ap (λ (u : ℕ). call-played (part kinds i 1) (part addresses i 1) (asked_of u) 0 own) (one_at kinds i)
+      (ap (λ (u : ℕ). call_played (part kinds i 1) (part addresses i 1) (asked_of u) 0 own) (one_at kinds i)
       ∙ played-for (part kinds i 1) (part addresses i 1) t 0 own ∙ (λ j. asked-for t (one_at kinds i j) (one_at addresses i j) (one_at s.values i j) 0 own))
       ∙ call_back t (get_or kinds i 0) (get_or addresses i 0) (get_or s.values i 0) h k ∙ sym (played-for kinds addresses t i s)

@@ -11,7 +11,7 @@ use lib.Dec.{leb}
 use lib.IntN.{pos, negsuc}
 use lib.ListN.{length, drop, get_or, get_or-eq_default}
 use borrow.Author.Tests.{lt-ltb, le-ltb, leb-true, le-leb, lt-leb, eq-eqb, ne_eqb}
-use Rattle.decimal.specs.Read.{digit, digit_at, digits-of, spelled, natural, bounded, spelled_at, natural_at, negative, positive, number_at}
+use Rattle.decimal.specs.Read.{digit, digit_at, digits_of, spelled, natural, bounded, spelled_at, natural_at, negative, positive, number_at}
 use Rattle.decimal.specs.declared.TakenNumber.TheVariants.{Number, NoNumber}
 use Rattle.decimal.specs.declared.TakenNatural.TheVariants.{Natural, NoNatural}
 
@@ -55,16 +55,16 @@ pub digit-most : (t : List ℕ) (i : ℕ) → digit_at t i ≡ true → get_or t
 unfolding digit_at
 digit-most t i e = digit-high (get_or t i 0) e
 
-run_more : (t : List ℕ) (i : ℕ) → digit_at t i ≡ true → digits-of (drop i t) ≡ get_or t i 0 ∷ digits-of (drop (suc i) t)
+run_more : (t : List ℕ) (i : ℕ) → digit_at t i ≡ true → digits_of (drop i t) ≡ get_or t i 0 ∷ digits_of (drop (suc i) t)
 unfolding digit_at
 run_more [] i e = cc
 run_more (c ∷ t) zero e = rw e
 run_more (c ∷ t) (suc i) e = run_more t i e
 
-run-go : (t : List ℕ) (i : ℕ) → digit_at t i ≡ true → digits-of (drop i t) ≡ get_or t i 0 ∷ digits-of (drop (i + 1) t)
+run-go : (t : List ℕ) (i : ℕ) → digit_at t i ≡ true → digits_of (drop i t) ≡ get_or t i 0 ∷ digits_of (drop (i + 1) t)
 run-go t i e = rw (add-one i) (run_more t i e)
 
-pub run-stop : (t : List ℕ) (i : ℕ) → digit_at t i ≡ false → digits-of (drop i t) ≡ []
+pub run-stop : (t : List ℕ) (i : ℕ) → digit_at t i ≡ false → digits_of (drop i t) ≡ []
 unfolding digit_at
 run-stop [] zero e = refl
 run-stop [] (suc i) e = refl
@@ -84,7 +84,7 @@ pub spelled_step : (v : ℕ) (t : List ℕ) (i : ℕ) → digit_at t i ≡ true 
 unfolding spelled_at
 spelled_step v t i e =
     rw (run-go t i e)
-    (ap (λ (k : ℕ). bounded (some (spelled (v * 10 + (get_or t i 0 - 48)) (digits-of (drop (i + 1) t)))) k) (omega arith))
+    (ap (λ (k : ℕ). bounded (some (spelled (v * 10 + (get_or t i 0 - 48)) (digits_of (drop (i + 1) t)))) k) (omega arith))
 
 -- digits behind v make it no less
 spelled_grows : (v : ℕ) (cs : List ℕ) → v ≤ spelled v cs
@@ -93,7 +93,7 @@ spelled_grows v (c ∷ cs) = omega (arith, spelled_grows (v * 10 + (c - 48)) cs)
 
 pub spelled-over : (v : ℕ) (t : List ℕ) (i : ℕ) → 2 ^ 64 ≤ v → spelled_at v t i ≡ NoNatural
 unfolding spelled_at
-spelled-over v t i h = rw (le-ltb (spelled v (digits-of (drop i t))) (2 ^ 64) (omega (arith, spelled_grows v (digits-of (drop i t)))))
+spelled-over v t i h = rw (le-ltb (spelled v (digits_of (drop i t))) (2 ^ 64) (omega (arith, spelled_grows v (digits_of (drop i t)))))
 
 -- ---- numerals
 pub natural-none : (t : List ℕ) (i : ℕ) → digit_at t i ≡ false → natural_at t i ≡ NoNatural
@@ -114,7 +114,7 @@ natural-lead c (d ∷ cs) h = rw (ne_eqb c 48 h)
 
 pub natural-digits : (t : List ℕ) (i : ℕ) → digit_at t i ≡ true → (get_or t i 0 ≡ 48 → ⊥) → natural_at t i ≡ spelled_at 0 t i
 unfolding natural_at spelled_at
-natural-digits t i e z = rw (run-go t i e, natural-lead (get_or t i 0) (digits-of (drop (i + 1) t)) z)
+natural-digits t i e z = rw (run-go t i e, natural-lead (get_or t i 0) (digits_of (drop (i + 1) t)) z)
 
 -- ---- integers
 pub sign-in : (t : List ℕ) (i : ℕ) → get_or t i 0 ≡ 45 → i < length t

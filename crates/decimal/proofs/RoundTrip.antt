@@ -17,7 +17,7 @@ use mir.Val.{SFits}
 use borrow.Author.Tests.{eqb-true, eqb-false, lt-ltb}
 use Rattle.num.proofs.Integers.{fit-up, fit-down}
 use Rattle.decimal.specs.Written.{decimal, render}
-use Rattle.decimal.specs.Read.{digit, digit_at, digits-of, spelled, natural, bounded, natural_at, number_at, negative, positive}
+use Rattle.decimal.specs.Read.{digit, digit_at, digits_of, spelled, natural, bounded, natural_at, number_at, negative, positive}
 use Rattle.decimal.specs.declared.TakenNatural.{TakenNatural}
 use Rattle.decimal.specs.declared.TakenNatural.TheVariants.{Natural, NoNatural}
 use Rattle.decimal.specs.declared.TakenNumber.TheVariants.{Number, NoNumber}
@@ -29,17 +29,17 @@ spelled-snoc v [] c = refl
 spelled-snoc v (x ∷ xs) c = spelled-snoc (v * 10 + (x - 48)) xs c
 
 -- digits, and a text behind them
-run-append : (xs rest : List ℕ) → digits-of xs ≡ xs → digits-of (xs ++ rest) ≡ xs ++ digits-of rest
+run-append : (xs rest : List ℕ) → digits_of xs ≡ xs → digits_of (xs ++ rest) ≡ xs ++ digits_of rest
 run-append [] rest e = refl
 run-append (x ∷ xs) rest e = go (digit x) refl (run-append xs rest)
   where
-    go : (b : Bool) → digit x ≡ b → (digits-of xs ≡ xs → digits-of (xs ++ rest) ≡ xs ++ digits-of rest) → digits-of ((x ∷ xs) ++ rest) ≡ x ∷ (xs ++ digits-of rest)
-    go true d ih = rw d (ap (λ (l : List ℕ). x ∷ l) (ih (let z : x ∷ digits-of xs ≡ x ∷ xs = rw d at e in (cc))))
+    go : (b : Bool) → digit x ≡ b → (digits_of xs ≡ xs → digits_of (xs ++ rest) ≡ xs ++ digits_of rest) → digits_of ((x ∷ xs) ++ rest) ≡ x ∷ (xs ++ digits_of rest)
+    go true d ih = rw d (ap (λ (l : List ℕ). x ∷ l) (ih (let z : x ∷ digits_of xs ≡ x ∷ xs = rw d at e in (cc))))
     go false d ih = let z : [] ≡ x ∷ xs = rw d at e in (cc)
 
 -- what the digits of n are: all digits, they spell n, and the first is no 0 unless it stands alone
 record Digits (n : ℕ) (ds : List ℕ) : Type 0 where
-  run : digits-of ds ≡ ds
+  run : digits_of ds ≡ ds
   value : spelled 0 ds ≡ n
   lead : ℕ
   tail : List ℕ
@@ -92,7 +92,7 @@ natural-of n =
     rw d.split (natural-cons n d.lead d.tail (rw d.split at d.value) d.zeros)
 
 -- ---- reading what was written: `rest` is what stands behind the numeral, and does not begin with a digit
-pub natural-back : (n : ℕ) (text rest : List ℕ) (at : ℕ) → n < 2 ^ 64 → drop at text ≡ decimal n ++ rest → digits-of rest ≡ [] → natural_at text at ≡ Natural n (at + length (decimal n))
+pub natural-back : (n : ℕ) (text rest : List ℕ) (at : ℕ) → n < 2 ^ 64 → drop at text ≡ decimal n ++ rest → digits_of rest ≡ [] → natural_at text at ≡ Natural n (at + length (decimal n))
 unfolding natural_at
 natural-back n text rest at h e f = rw (e, run-append (decimal n) rest (numeral n).run, f, append-nil (decimal n), natural-of n, lt-ltb n (2 ^ 64) h)
 
@@ -102,7 +102,7 @@ first text xs rest at e = ap (λ (l : List ℕ). get_or l 0 0) (sym e) ∙ get_o
 behind : (text : List ℕ) (c : ℕ) (cs : List ℕ) (at : ℕ) → drop at text ≡ c ∷ cs → drop (at + 1) text ≡ cs
 behind text c cs at e = sym (drop-drop 1 at text) ∙ ap (drop 1) e
 
-pub number-back : (z : ℤ) (text rest : List ℕ) (at : ℕ) → SFits w64 z → drop at text ≡ render z ++ rest → digits-of rest ≡ [] → number_at text at ≡ Number z (at + length (render z))
+pub number-back : (z : ℤ) (text rest : List ℕ) (at : ℕ) → SFits w64 z → drop at text ≡ render z ++ rest → digits_of rest ≡ [] → number_at text at ≡ Number z (at + length (render z))
 unfolding render
 number-back (pos n) text rest at h e f =
     let d = numeral n in
@@ -125,11 +125,11 @@ number-written z l at h k e = number-back z _ _ at h (written l (render z) at k)
 
 -- ---- nothing else is read: what stands where a number is read is its numeral
 -- digits behind a number other than 0 are those of the numeral behind its own
-decimal-spelled : (v : ℕ) (cs : List ℕ) → 0 < v → digits-of cs ≡ cs → decimal (spelled v cs) ≡ decimal v ++ cs
+decimal-spelled : (v : ℕ) (cs : List ℕ) → 0 < v → digits_of cs ≡ cs → decimal (spelled v cs) ≡ decimal v ++ cs
 decimal-spelled v [] h e = sym (append-nil (decimal v))
 decimal-spelled v (c ∷ cs) h e = go (digit c) refl (decimal-spelled (v * 10 + (c - 48)) cs)
   where
-    go : (b : Bool) → digit c ≡ b → (0 < v * 10 + (c - 48) → digits-of cs ≡ cs → decimal (spelled (v * 10 + (c - 48)) cs) ≡ decimal (v * 10 + (c - 48)) ++ cs) → decimal (spelled v (c ∷ cs)) ≡ decimal v ++ (c ∷ cs)
+    go : (b : Bool) → digit c ≡ b → (0 < v * 10 + (c - 48) → digits_of cs ≡ cs → decimal (spelled (v * 10 + (c - 48)) cs) ≡ decimal (v * 10 + (c - 48)) ++ cs) → decimal (spelled v (c ∷ cs)) ≡ decimal v ++ (c ∷ cs)
     go false d ih = let z : [] ≡ c ∷ cs = rw d at e in (cc)
     go true d ih =
         let low : 48 ≤ c = digit_low c d in
@@ -137,24 +137,24 @@ decimal-spelled v (c ∷ cs) h e = go (digit c) refl (decimal-spelled (v * 10 + 
         let tens : (v * 10 + (c - 48)) / 10 ≡ v = omega arith in
         let ones : 48 + (v * 10 + (c - 48)) % 10 ≡ c = omega arith in
         let one_more : decimal (v * 10 + (c - 48)) ≡ decimal v ++ (c ∷ []) = decimal-more (v * 10 + (c - 48)) (omega arith) ∙ rw (tens, ones) in
-        ih (omega arith) (let z : c ∷ digits-of cs ≡ c ∷ cs = rw d at e in (cc))
+        ih (omega arith) (let z : c ∷ digits_of cs ≡ c ∷ cs = rw d at e in (cc))
         ∙ ap (λ (l : List ℕ). l ++ cs) one_more
         ∙ append_assoc (decimal v) (c ∷ []) cs
 
-run-again : (l : List ℕ) → digits-of (digits-of l) ≡ digits-of l
+run-again : (l : List ℕ) → digits_of (digits_of l) ≡ digits_of l
 run-again [] = refl
 run-again (c ∷ cs) = go (digit c) refl (run-again cs)
   where
-    go : (b : Bool) → digit c ≡ b → digits-of (digits-of cs) ≡ digits-of cs → digits-of (digits-of (c ∷ cs)) ≡ digits-of (c ∷ cs)
+    go : (b : Bool) → digit c ≡ b → digits_of (digits_of cs) ≡ digits_of cs → digits_of (digits_of (c ∷ cs)) ≡ digits_of (c ∷ cs)
     go true d ih = rw (d, d) (ap (λ (l : List ℕ). c ∷ l) ih)
     go false d ih = rw d
 
 -- a text is its digits and what stands behind them
-run-split : (l : List ℕ) → l ≡ digits-of l ++ drop (length (digits-of l)) l
+run-split : (l : List ℕ) → l ≡ digits_of l ++ drop (length (digits_of l)) l
 run-split [] = refl
 run-split (c ∷ cs) = go (digit c) refl (run-split cs)
   where
-    go : (b : Bool) → digit c ≡ b → cs ≡ digits-of cs ++ drop (length (digits-of cs)) cs → c ∷ cs ≡ digits-of (c ∷ cs) ++ drop (length (digits-of (c ∷ cs))) (c ∷ cs)
+    go : (b : Bool) → digit c ≡ b → cs ≡ digits_of cs ++ drop (length (digits_of cs)) cs → c ∷ cs ≡ digits_of (c ∷ cs) ++ drop (length (digits_of (c ∷ cs))) (c ∷ cs)
     go true d ih = rw d (ap (λ (l : List ℕ). c ∷ l) ih)
     go false d ih = rw d
 
@@ -163,7 +163,7 @@ zero-alone [] n g = (refl, cc)
 zero-alone (d ∷ cs) n g = (cc, cc)
 
 -- digits that are a numeral are that of their number
-natural-only : (n : ℕ) (ds : List ℕ) → digits-of ds ≡ ds → natural ds ≡ some n → ds ≡ decimal n
+natural-only : (n : ℕ) (ds : List ℕ) → digits_of ds ≡ ds → natural ds ≡ some n → ds ≡ decimal n
 natural-only n [] e g = cc
 natural-only n (c ∷ cs) e g = go (digit c) refl
   where
@@ -172,7 +172,7 @@ natural-only n (c ∷ cs) e g = go (digit c) refl
         let low : 48 ≤ c = digit_low c d in
         let high : c ≤ 57 = digit-high c d in
         let one : decimal (0 * 10 + (c - 48)) ≡ c ∷ [] = decimal-small (0 * 10 + (c - 48)) (omega arith) ∙ ap (λ (k : ℕ). k ∷ []) (omega arith) in
-        sym (ap decimal (sym v) ∙ decimal-spelled (0 * 10 + (c - 48)) cs (pos_of c low z) (let q : c ∷ digits-of cs ≡ c ∷ cs = rw d at e in (cc)) ∙ ap (λ (l : List ℕ). l ++ cs) one)
+        sym (ap decimal (sym v) ∙ decimal-spelled (0 * 10 + (c - 48)) cs (pos_of c low z) (let q : c ∷ digits_of cs ≡ c ∷ cs = rw d at e in (cc)) ∙ ap (λ (l : List ℕ). l ++ cs) one)
       where
         pos_of : (c : ℕ) → 48 ≤ c → (c ≡ 48 → ⊥) → 0 < 0 * 10 + (c - 48)
         pos_of c h z = omega arith
@@ -203,11 +203,11 @@ bounded-is (some m) n next k e = go (ltb m (2 ^ 64)) refl
 pub natural-only-written : (n : ℕ) (text : List ℕ) (at next : ℕ) → natural_at text at ≡ Natural n next → drop at text ≡ decimal n ++ drop next text
 unfolding natural_at
 natural-only-written n text at next e =
-    let run = digits-of (drop at text) in
-    let b = bounded-is (natural (digits-of (drop at text))) n next (at + length (digits-of (drop at text))) e in
+    let run = digits_of (drop at text) in
+    let b = bounded-is (natural (digits_of (drop at text))) n next (at + length (digits_of (drop at text))) e in
     run-split (drop at text)
-    ∙ ap (λ (l : List ℕ). l ++ drop (length (digits-of (drop at text))) (drop at text)) (natural-only n (digits-of (drop at text)) (run-again (drop at text)) b.0)
-    ∙ ap (λ (l : List ℕ). decimal n ++ l) (drop-drop (length (digits-of (drop at text))) at text ∙ ap (λ (k : ℕ). drop k text) b.1)
+    ∙ ap (λ (l : List ℕ). l ++ drop (length (digits_of (drop at text))) (drop at text)) (natural-only n (digits_of (drop at text)) (run-again (drop at text)) b.0)
+    ∙ ap (λ (l : List ℕ). decimal n ++ l) (drop-drop (length (digits_of (drop at text))) at text ∙ ap (λ (k : ℕ). drop k text) b.1)
 
 -- the same of an integer: which numeral without its sign gives it
 record Below (o : TakenNatural) (z : ℤ) (next : ℕ) : Type 0 where

@@ -5,7 +5,7 @@ use borrow.Author.Tests.{eqb-false}
 use native.Mathlib.Decide.{dec_lt}
 use Rattle.sizes.specs.Sizes.{num_channels, registers_end, wavetables_size, stems_per_frame}
 use Rattle.num.proofs.Choice.{cond-by, never}
-use Rattle.version.specs.Versions.{version-of}
+use Rattle.version.specs.Versions.{version_of}
 use Rattle.version.specs.declared.SguVersion.{SguVersion}
 use Rattle.voices.specs.Addresses.{channel_of, offset_of, is_control}
 use Rattle.voices.specs.Core.{channel_at, stored_channel, set_core_version}
@@ -170,7 +170,7 @@ module _ (kinds addresses : List ℕ) (first n i : ℕ) (now : Listed) where
       count = no-frame asks.Look e refl;
     }
 
-    pub version-begins : asked_of (get_or kinds i 0) ≡ asks.SetVersion → (x : Core) (version : SguVersion) → version ≡ version-of (get_or addresses i 0) → x ≡ set_core_version now.core version
+    pub version-begins : asked_of (get_or kinds i 0) ≡ asks.SetVersion → (x : Core) (version : SguVersion) → version ≡ version_of (get_or addresses i 0) → x ≡ set_core_version now.core version
         → Begins (record { core = x; version = version; ram = now.ram; queues = now.queues; values = now.values; stems = now.stems }) 0
     version-begins e x version ev ec = record {
       ram = refl;

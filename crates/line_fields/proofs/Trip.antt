@@ -18,7 +18,7 @@ use Rattle.num.proofs.Choice.{cond-by}
 use Rattle.num.proofs.Integers.{fit-up, fit-down, one-zero, le-lt_z}
 use Rattle.num.proofs.Fit.{widen16-64}
 use Rattle.num.proofs.Tables.{at_all}
-use Rattle.decimal.specs.Read.{digits-of}
+use Rattle.decimal.specs.Read.{digits_of}
 use Rattle.decimal.specs.Written.{decimal, render}
 use Rattle.decimal.proofs.RoundTrip.{natural-back, number-back}
 use Rattle.line_fields.specs.Table.{is_sample, sample_of_number, most_of, mosts}
@@ -45,7 +45,7 @@ bits_back n h = of_z-to_z w16 (n % 65536) (record { fits = omega arith }) ∙ sm
     small n h = omega arith
 
 -- ---- one field
-field_back : (fifo : Bool) (k n : ℕ) (text rest : List ℕ) (a : ℕ) → drop a text ≡ field_text k n ++ rest → digits-of rest ≡ [] → n ≤ most_of fifo k → field_at fifo k text a ≡ At n (a + length (field_text k n))
+field_back : (fifo : Bool) (k n : ℕ) (text rest : List ℕ) (a : ℕ) → drop a text ≡ field_text k n ++ rest → digits_of rest ≡ [] → n ≤ most_of fifo k → field_at fifo k text a ≡ At n (a + length (field_text k n))
 field_back fifo k n text rest a e f h = go (is_sample k) refl
   where
     go : (b : Bool) → is_sample k ≡ b → field_at fifo k text a ≡ At n (a + length (field_text k n))
@@ -64,7 +64,7 @@ field_back fifo k n text rest a e f h = go (is_sample k) refl
         ∙ ap (λ (l : List ℕ). At n (a + length l)) (sym (text-natural k n s))
 
 -- and the comma before it
-part-back : (fifo : Bool) (k n : ℕ) (text rest : List ℕ) (a : ℕ) → drop a text ≡ part_text k n ++ rest → digits-of rest ≡ [] → n ≤ most_of fifo k → part_at fifo k text a ≡ At n (a + length (part_text k n))
+part-back : (fifo : Bool) (k n : ℕ) (text rest : List ℕ) (a : ℕ) → drop a text ≡ part_text k n ++ rest → digits_of rest ≡ [] → n ≤ most_of fifo k → part_at fifo k text a ≡ At n (a + length (part_text k n))
 part-back fifo k n text rest a e f h = go (eqb k 0) refl
   where
     go : (b : Bool) → eqb k 0 ≡ b → part_at fifo k text a ≡ At n (a + length (part_text k n))
@@ -85,12 +85,12 @@ part-back fifo k n text rest a e f h = go (eqb k 0) refl
         longer a m = omega arith
 
 -- ---- fields one behind the other
-quiet : (k : ℕ) (ns rest : List ℕ) → digits-of rest ≡ [] → digits-of (parts_text (suc k) ns ++ rest) ≡ []
+quiet : (k : ℕ) (ns rest : List ℕ) → digits_of rest ≡ [] → digits_of (parts_text (suc k) ns ++ rest) ≡ []
 unfolding parts_text
 quiet k [] rest h = h
 quiet k (n ∷ ns) rest h = rw (later-part (suc k) n (λ e. omega arith)) refl
 
-parts-back : (fifo : Bool) (text : List ℕ) (ns : List ℕ) (k a : ℕ) (rest : List ℕ) → drop a text ≡ parts_text k ns ++ rest → digits-of rest ≡ [] → Within fifo k ns → parts_at fifo text (length ns) k a ≡ got ns (a + length (parts_text k ns))
+parts-back : (fifo : Bool) (text : List ℕ) (ns : List ℕ) (k a : ℕ) (rest : List ℕ) → drop a text ≡ parts_text k ns ++ rest → digits_of rest ≡ [] → Within fifo k ns → parts_at fifo text (length ns) k a ≡ got ns (a + length (parts_text k ns))
 unfolding parts_text parts_at
 parts-back fifo text [] k a rest e f w = ap (got []) (sym (add-zero a))
 parts-back fifo text (n ∷ ns) k a rest e f w =
@@ -169,5 +169,5 @@ module _ (fifo : Bool) (xs : List ℕ) (n : ℕ) (ys : List ℕ) (l : length xs 
       let second : queue_part_at fifo text a ≡ got (n ∷ ys) c = queue-is fifo text a n b (part-back fifo 281 n text (C ++ (10 ∷ [])) a at_a (quiet 281 ys (10 ∷ []) refl) v) ∙ ap (onto n) (ap (λ (k : ℕ). parts_at fifo text k 282 b) (sym m) ∙ parts-back fifo text ys 282 b (10 ∷ []) at_b refl w) in
       ap (λ (t : PartsTaken). line_ended text (with_queue fifo text t)) first ∙ ap (λ (t : PartsTaken). line_ended text (follows xs t)) second ∙ rw closes refl
     where
-      quiet-queue : digits-of (B ++ (C ++ (10 ∷ []))) ≡ []
+      quiet-queue : digits_of (B ++ (C ++ (10 ∷ []))) ≡ []
       quiet-queue = rw (later-part 281 n (λ e. omega arith)) refl

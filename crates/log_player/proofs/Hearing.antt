@@ -33,7 +33,7 @@ use Rattle.s3w2.specs.Chips.{core_at, core_queues}
 use Rattle.s3w2.specs.Registers.{read_register_called, peek_register_answer}
 use Rattle.chip_sound.specs.Sound.{silent_turns, core_frames, framed, framed_ended, clock_called}
 use Rattle.chip_sound.specs.Mixing.{served, mixed_side, mixed_answered, mixed_left, mixed_right, mixed_i32_called}
-use Rattle.chip_lists.specs.Plays.{Playing, shown_by, clock_played, call-played}
+use Rattle.chip_lists.specs.Plays.{Playing, shown_by, clock_played, call_played}
 use Rattle.log.specs.declared.Line.TheVariants.{Write, WriteRam, Read, Peek, Clock}
 use Rattle.log.specs.Texts.{frame_lines, read_back_line, peak_of}
 use Rattle.log_player.specs.Worlds.{World, world}
@@ -201,14 +201,14 @@ module _ (kinds addresses : List ℕ) where
   stays p q s o true = o
   stays p q s o false = s
 
-  pub moves : (t : Asked) (i : ℕ) (p : Playing) → Roomy (clocked_as t (get_or addresses i 0)) p → Moves (clocked_as t (get_or addresses i 0)) i p (call-played kinds addresses t i p)
-  moves asked.WriteRegister i p r = let q = call-played kinds addresses asked.WriteRegister i p in moves-still i p q refl refl (stays p q refl refl)
-  moves asked.WritePcmRam i p r = let q = call-played kinds addresses asked.WritePcmRam i p in moves-still i p q refl refl (stays p q refl refl)
-  moves asked.SetVersion i p r = let q = call-played kinds addresses asked.SetVersion i p in moves-still i p q refl refl (stays p q refl refl)
+  pub moves : (t : Asked) (i : ℕ) (p : Playing) → Roomy (clocked_as t (get_or addresses i 0)) p → Moves (clocked_as t (get_or addresses i 0)) i p (call_played kinds addresses t i p)
+  moves asked.WriteRegister i p r = let q = call_played kinds addresses asked.WriteRegister i p in moves-still i p q refl refl (stays p q refl refl)
+  moves asked.WritePcmRam i p r = let q = call_played kinds addresses asked.WritePcmRam i p in moves-still i p q refl refl (stays p q refl refl)
+  moves asked.SetVersion i p r = let q = call_played kinds addresses asked.SetVersion i p in moves-still i p q refl refl (stays p q refl refl)
   moves asked.Nothing i p r = moves-still i p p refl refl (λ b. refl)
   moves asked.Look i p r =
       let x = looked_at i p in
-      let s = stays p (call-played kinds addresses asked.Look i p) refl refl in
+      let s = stays p (call_played kinds addresses asked.Look i p) refl refl in
       record {
         frames = omega arith;
         many = length-set p.values i (byte_answered x.answer);
@@ -247,7 +247,7 @@ module _ (kinds addresses : List ℕ) where
 
     abbrev heard : Asked → Bool → Effect
     heard t is_read = record {
-      after = world_of (call-played kinds addresses t i p) (peak_of l xl (clocked_as t a)) (peak_of r xr (clocked_as t a));
+      after = world_of (call_played kinds addresses t i p) (peak_of l xl (clocked_as t a)) (peak_of r xr (clocked_as t a));
       text = shown_as t is_read a byte xl xr;
     }
 

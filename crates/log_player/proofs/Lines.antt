@@ -26,7 +26,7 @@ use Rattle.s3w2.specs.declared.Answer.TheVariants.{Done}
 use Rattle.s3w2.specs.declared.Chip.{Chip}
 use Rattle.s3w2.specs.Answers.{is_done, number_of, answered, byte_answered}
 use Rattle.s3w2.specs.Refusals.{accepts_chip, refusal}
-use Rattle.chip_lists.specs.Plays.{Playing, playing, call-played, calls_played, play_refusal, all_played, play_called, play_left}
+use Rattle.chip_lists.specs.Plays.{Playing, playing, call_played, calls_played, play_refusal, all_played, play_called, play_left}
 use Rattle.s3w2.proofs.Refused.{nothing-amiss}
 use Rattle.log.specs.declared.Line.{Line}
 use Rattle.log.specs.Texts.{peak_of}
@@ -155,7 +155,7 @@ module _ (kinds addresses values : List ℕ) (w : World) (stems others : List �
   shows-byte : (n : ℕ) → n < count → asks n ≡ asked.Look → get_or bytes n 0 ≡ byte_answered (looked_at kinds addresses n (s n)).answer
   unfolding calls_played
   shows-byte n h e =
-      last-values n h ∙ ap (λ (t : Asked). get_or (call-played kinds addresses t n (s n)).values n 0) e
+      last-values n h ∙ ap (λ (t : Asked). get_or (call_played kinds addresses t n (s n)).values n 0) e
       ∙ get_or-set_same (s n).values n (byte_answered (looked_at kinds addresses n (s n)).answer) 0 (omega (arith, h, lots, (before n (omega arith)).many))
 
   -- ---- the sides that the stems add up to: the left one (hand 0), the right one (hand 1)
@@ -186,7 +186,7 @@ module _ (kinds addresses values : List ℕ) (w : World) (stems others : List �
         let g = stems-made kinds addresses (s n) (a n) q t in
         let i : stems_per_frame * F n + k ≡ stems_per_frame * (s n).frames + k = omega (arith, b.frames) in
         last-stems t n h (stems_per_frame * F n + k) (omega (arith, l, f, many))
-        ∙ ap (λ (x : Asked). get_or (buffer_of t (call-played kinds addresses x n (s n))) (stems_per_frame * F n + k) (pos 0)) e
+        ∙ ap (λ (x : Asked). get_or (buffer_of t (call_played kinds addresses x n (s n))) (stems_per_frame * F n + k) (pos 0)) e
         ∙ ap₂ (λ (x : List ℤ) (j : ℕ). get_or x j (pos 0)) (stems-put kinds addresses (s n) (a n) q t) i
         ∙ sets-at (pos 0) (made t) (buffer_of t (s n)) (stems_per_frame * (s n).frames) k (omega (arith, l, g)) (omega (arith, g, q.room t))
 

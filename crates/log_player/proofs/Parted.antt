@@ -23,7 +23,7 @@ use Rattle.log_player.specs.Worlds.{World, world, fresh_player, fresh_world}
 use Rattle.log_player.specs.Applied.{after_line, printed}
 use Rattle.log_player.specs.Logs.{rest_text, log_text}
 use Rattle.log_player.specs.Steps.{first_line, next_of}
-use Rattle.log_player.specs.Runs.{has-room, Spot, spot, spot_behind, is_line, found_by, plays_line, lines_played, Run, stop_text, stops_at, run_from, refused_by, log_run}
+use Rattle.log_player.specs.Runs.{has_room, Spot, spot, spot_behind, is_line, found_by, plays_line, lines_played, Run, stop_text, stops_at, run_from, refused_by, log_run}
 use Rattle.log_player.specs.Parts.{text_before, followed, runs_over, unless_bad, parts_printed, joined}
 use Rattle.log_player.proofs.Stops.{next_past}
 use Rattle.log_player.proofs.Whole.{step_line, step-bad, step_end}
@@ -132,7 +132,7 @@ module _ (room : ℕ) (input : List ℕ) where
   -- what a run finds is there
   found-is : (s : Spot) (next : Next) → is_line next ≡ false → found_by room input s ≡ next → next_of (drop s.from input) s.from ≡ next
   unfolding found_by
-  found-is s next k e = go (has-room room (length s.text) s.number) e
+  found-is s next k e = go (has_room room (length s.text) s.number) e
     where
       go : (b : Bool) → cond b (next_of (drop s.from input) s.from) (Line s.from) ≡ next → next_of (drop s.from input) s.from ≡ next
       go true h = h
@@ -159,7 +159,7 @@ module _ (room : ℕ) (input : List ℕ) where
   run-rest s e = found-is (lines_played room input (length input) s) Rest refl e
 
   -- a run that has room at its beginning and none at its end has played a line
-  pub run_on : (s : Spot) → has-room room (length s.text) s.number ≡ true → is_line (run_from room input s).next ≡ true → s.from < (run_from room input s).from
+  pub run_on : (s : Spot) → has_room room (length s.text) s.number ≡ true → is_line (run_from room input s).next ≡ true → s.from < (run_from room input s).from
   run_on s r e = go (plays_line room input s) refl
     where
       go : (b : Bool) → plays_line room input s ≡ b → s.from < (run_from room input s).from

@@ -19,7 +19,7 @@ use Rattle.log_player.specs.declared.Next.{Next}
 use Rattle.log_player.specs.declared.Next.TheVariants.{Line, Rest, Bad, Refused}
 use Rattle.log_player.specs.Worlds.{World, world}
 use Rattle.log_player.specs.Steps.{next_of}
-use Rattle.log_player.specs.Runs.{has-room, Spot, spot, Run, stop_text, stops_at, run_from, refused_by, log_run, ran_to, ran_as}
+use Rattle.log_player.specs.Runs.{has_room, Spot, spot, Run, stop_text, stops_at, run_from, refused_by, log_run, ran_to, ran_as}
 use Rattle.log_player.specs.Batches.{NoLine, Batches, Stops}
 use Rattle.log_player.proofs.Spots.{plays-none, plays-full, found-there, found-full, run-stops}
 use Rattle.log_player.proofs.Rooms.{room-is}
@@ -69,7 +69,7 @@ module _ (input : List ℕ) (run : Run) (p : Player) (ram : List ℕ) (queues : 
       whole : answer.end ≡ length (r.text ++ stop_text line next)
       whole = omega (arith, r.whole, s.put.0, s.short, room, length-append r.text (stop_text line next))
 
-      roomy : has-room (length out) (length r.text) line ≡ true
+      roomy : has_room (length out) (length r.text) line ≡ true
       roomy = room-is (length out) (length r.text) line (omega (arith, more)) (omega (arith, r.whole, room, long))
 
       is : run ≡ stops_at here next
@@ -94,7 +94,7 @@ module _ (p : Player) (from number at : ℕ) (out : List ℕ) (r : Ran) where
   stops_as now next other e s = subst (λ (x : Next). Stops x p from number out now at r) (sym e) s
 
 -- where there is no room, it ends too
-pub running-full : (input : List ℕ) (run : Run) (p : Player) (ram : List ℕ) (queues : List ℤ) (line place end : ℕ) (out mid : List ℕ) → has-room (length out) end line ≡ false → Running input run (world p ram queues) line place out mid end → Promised run ram queues out mid (ran_as p (Line place) place line end)
+pub running-full : (input : List ℕ) (run : Run) (p : Player) (ram : List ℕ) (queues : List ℤ) (line place end : ℕ) (out mid : List ℕ) → has_room (length out) end line ≡ false → Running input run (world p ram queues) line place out mid end → Promised run ram queues out mid (ran_as p (Line place) place line end)
 running-full input run p ram queues line place end out mid full r =
     subst (λ (v : Run). Promised v ram queues out mid (ran_as p (Line place) place line end)) (sym is)
     (ap (ran_as p (Line place) place line) whole, (refl, (refl, (rw (append-nil r.text) r.put.1, omega (arith, whole, r.put.0)))))
@@ -105,8 +105,8 @@ running-full input run p ram queues line place end out mid full r =
     whole : end ≡ length (r.text ++ [])
     whole = rw (append-nil r.text) r.whole
 
-    none : has-room (length out) (length r.text) line ≡ false
-    none = ap (λ (k : ℕ). has-room (length out) k line) (sym r.whole) ∙ full
+    none : has_room (length out) (length r.text) line ≡ false
+    none = ap (λ (k : ℕ). has_room (length out) k line) (sym r.whole) ∙ full
 
     is : run ≡ stops_at here (Line place)
     is = sym r.ahead ∙ run-stops (length out) input here (plays-full (length out) input here none) ∙ ap (stops_at here) (found-full (length out) input here none)

@@ -18,7 +18,7 @@ use Rattle.log_player.specs.Worlds.{World}
 use Rattle.log_player.specs.Applied.{after_line, printed}
 use Rattle.log_player.specs.Logs.{rest_text}
 use Rattle.log_player.specs.Steps.{first_line, next_of}
-use Rattle.log_player.specs.Runs.{has-room, Spot, spot_behind, is_line, found_by, plays_line, lines_played, Run, stops_at, run_from}
+use Rattle.log_player.specs.Runs.{has_room, Spot, spot_behind, is_line, found_by, plays_line, lines_played, Run, stops_at, run_from}
 use Rattle.log_player.proofs.Stops.{first_short, next_past}
 use Rattle.log_player.proofs.Whole.{step_line, step-bad}
 
@@ -63,7 +63,7 @@ module _ (room : ℕ) (input : List ℕ) where
   holds s = next_of (drop s.from input) s.from
 
   abbrev room_at : Spot → Bool
-  room_at s = has-room room (length s.text) s.number
+  room_at s = has_room room (length s.text) s.number
 
   -- ---- what a run does at a spot
   pub plays-line : (s : Spot) → room_at s ≡ true → is_line (holds s) ≡ true → plays_line room input s ≡ true

@@ -11,7 +11,7 @@ use Rattle.log.specs.declared.Line.TheVariants.{Write, WriteRam, Read, Peek, Clo
 use Rattle.log.specs.Lines.{is_bad}
 use Rattle.log.proofs.Bytes.{FitLine}
 use Rattle.log.specs.Texts.{frame_lines, read_back_line}
-use Rattle.version.specs.Versions.{version-of}
+use Rattle.version.specs.Versions.{version_of}
 use Rattle.s3w2.specs.declared.Answer.{Answer}
 use Rattle.s3w2.specs.declared.Answer.TheVariants.{Done, Byte, Sample, Count, Flag, Ended, RamLength, QueueBuffer, NotAccepted, StemBuffer}
 use Rattle.s3w2.specs.Registers.{read_register_called, peek_register_answer}
@@ -33,7 +33,7 @@ call_of (WriteRam a v) = list.write_pcm_ram a v
 call_of (Read a) = list.read_register 0 a
 call_of (Peek a) = list.peek_register 0 a
 call_of (Clock n) = list.clock_mixed_into_i32 (silent n) (silent n)
-call_of (Version v) = list.set_version (version-of v)
+call_of (Version v) = list.set_version (version_of v)
 call_of Malformed = list.peek_register 0 0
 call_of Unmapped = list.peek_register 0 0
 

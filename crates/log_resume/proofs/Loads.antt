@@ -39,7 +39,7 @@ use Rattle.resume.proofs.Second.{headed_chip, head-called, headed-held, read-on}
 use Rattle.log_player.specs.declared.Player.{Player}
 use Rattle.log_player.specs.Worlds.{World, with_chip, fresh_player}
 use Rattle.log_state.specs.declared.Taken.{Taken}
-use Rattle.log_state.specs.Lines.{state_line, state_lines, line_count, state_text, own-line, take_line, take_line_queues}
+use Rattle.log_state.specs.Lines.{state_line, state_lines, line_count, state_text, own_line, take_line, take_line_queues}
 use Rattle.log_state.specs.Loads.{Load, read_lines}
 use Rattle.log_state.specs.Loads as load
 use Rattle.log_state.proofs.Stated.{state-ended, read_next, take_head, take-head-queues, take-voice, take-voice-queues, head-line, voice-own}
@@ -115,7 +115,7 @@ module _ (w : World) (h : HeldMachine (machine_of w)) where
   voices (suc n) i g f b p q k e more ram =
       let here : i < chip_voices = omega arith in
       let l : List ℕ = state_line chip size w.queues (suc i) in
-      let is : own-line i l ≡ line i = voice-own chip size w.queues i (omega arith) in
+      let is : own_line i l ≡ line i = voice-own chip size w.queues i (omega arith) in
       let rest : List ℕ = state_lines chip size w.queues n (suc (suc i)) in
       let done : (take_line false p ram q (suc i) l).answer ≡ Done = ap (λ (t : Taken). t.answer) (take-voice false p ram q l i) ∙ ap (λ (t : List ℕ). (read_voice_called p.chip q t).answer) is ∙ is-done p.chip q k e i here in
       let player : (take_line false p ram q (suc i) l).player ≡ with_chip p (read_voice_called p.chip q (line i)).chip = ap (λ (t : Taken). t.player) (take-voice false p ram q l i) ∙ ap (λ (t : List ℕ). with_chip p (read_voice_called p.chip q t).chip) is in

@@ -13,7 +13,7 @@ use Rattle.session.specs.Heads.{write_head_answer, write_head_text, read_head_ca
 use Rattle.session.specs.Voices.{write_voice_answer, write_voice_text, voice_read_called, voice_read_queues}
 use Rattle.log_player.specs.declared.Player.{Player}
 use Rattle.log_state.specs.declared.Taken.{Taken}
-use Rattle.log_state.specs.Lines.{put_line_answer, put_line_text, taken_by, is_natural, own-line, take_line, take_line_queues}
+use Rattle.log_state.specs.Lines.{put_line_answer, put_line_text, taken_by, is_natural, own_line, take_line, take_line_queues}
 
 module _ (chip : Chip) (ram : ℕ) (queues : List ℤ) (k : ℕ) (out text : List ℕ) (answer : LineAnswer) where
   pub head-written : k ≡ 0 → (answer ≡ write_head_answer chip ram out) × (text ≡ write_head_text chip ram out) → (answer ≡ put_line_answer chip ram queues k out) × (text ≡ put_line_text chip ram queues k out)
@@ -29,17 +29,17 @@ module _ (stored : Bool) (p : Player) (ram : ℕ) (queues : List ℤ) (k : ℕ) 
   unfolding take_line take_line_queues
   head-taken e h s = rw (eq-eqb k 0 e) (s ∙ ap (λ (x : LineCalled). taken_by p x) h, refl)
 
-  pub voice-taken : (b : Bool) (after : List ℤ) → (k ≡ 0 → ⊥) → stored ≡ b → (line : List ℕ) → line ≡ own-line (k - 1) text → (called ≡ voice_read_called b p.chip queues line) × (after ≡ voice_read_queues b p.chip queues line) → r ≡ taken_by p called → (r ≡ take_line stored p ram queues k text) × (after ≡ take_line_queues stored p queues k text)
+  pub voice-taken : (b : Bool) (after : List ℤ) → (k ≡ 0 → ⊥) → stored ≡ b → (line : List ℕ) → line ≡ own_line (k - 1) text → (called ≡ voice_read_called b p.chip queues line) × (after ≡ voice_read_queues b p.chip queues line) → r ≡ taken_by p called → (r ≡ take_line stored p ram queues k text) × (after ≡ take_line_queues stored p queues k text)
   unfolding take_line take_line_queues
   voice-taken b after e f line o h s =
       rw (ne_eqb k 0 e, f)
       (s ∙ ap (λ (x : LineCalled). taken_by p x) (h.0 ∙ ap (voice_read_called b p.chip queues) o), h.1 ∙ ap (voice_read_queues b p.chip queues) o)
 
 -- ---- a voice line by its first field
-pub own-yes : (ch : ℕ) (text : List ℕ) → is_natural ch (natural_at text 0) ≡ true → text ≡ own-line ch text
-unfolding own-line
+pub own-yes : (ch : ℕ) (text : List ℕ) → is_natural ch (natural_at text 0) ≡ true → text ≡ own_line ch text
+unfolding own_line
 own-yes ch text h = rw h
 
-pub own-no : (ch : ℕ) (text : List ℕ) → is_natural ch (natural_at text 0) ≡ false → [] ≡ own-line ch text
-unfolding own-line
+pub own-no : (ch : ℕ) (text : List ℕ) → is_natural ch (natural_at text 0) ≡ false → [] ≡ own_line ch text
+unfolding own_line
 own-no ch text h = rw h

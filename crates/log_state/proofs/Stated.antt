@@ -34,8 +34,8 @@ use Rattle.session.specs.Voices.{line_of_voice, write_voice_answer, write_voice_
 use Rattle.log_player.specs.declared.Player.{Player}
 use Rattle.log_player.specs.Steps.{first_line}
 use Rattle.log_state.specs.declared.Found.TheVariants.{Line}
-use Rattle.log_state.specs.Lines.{state_line, line_count, put_line_answer, put_line_text, taken_by, is_natural, own-line, take_line, take_line_queues}
-use Rattle.log_state.specs.Loads.{front_line, behind_line, goes-on, read_lines}
+use Rattle.log_state.specs.Lines.{state_line, line_count, put_line_answer, put_line_text, taken_by, is_natural, own_line, take_line, take_line_queues}
+use Rattle.log_state.specs.Loads.{front_line, behind_line, goes_on, read_lines}
 use Rattle.log_state.specs.Finding.{sound_line, found_at}
 
 -- ---- a line of an accepted state is written where there is room for it
@@ -153,8 +153,8 @@ module _ (line rest : List ℕ) (e : Ended line) where
       → read_lines stored (suc n) k p ram queues (line ++ rest) ≡ read_lines stored n (suc k) (take_line stored p ram queues k line).player ram (take_line_queues stored p queues k line) rest
   unfolding read_lines
   read_next stored n k p ram queues d =
-      ap₂ (λ (x y : List ℕ). goes-on (take_line stored p ram queues k x).answer (read_lines stored n (suc k) (take_line stored p ram queues k x).player ram (take_line_queues stored p queues k x) y)) front-is behind-is
-      ∙ ap (λ (a : LineAnswer). goes-on a (read_lines stored n (suc k) (take_line stored p ram queues k line).player ram (take_line_queues stored p queues k line) rest)) d
+      ap₂ (λ (x y : List ℕ). goes_on (take_line stored p ram queues k x).answer (read_lines stored n (suc k) (take_line stored p ram queues k x).player ram (take_line_queues stored p queues k x) y)) front-is behind-is
+      ∙ ap (λ (a : LineAnswer). goes_on a (read_lines stored n (suc k) (take_line stored p ram queues k line).player ram (take_line_queues stored p queues k line) rest)) d
 
   found : (at k : ℕ) → sound_line (get_or (line ++ rest) 0 0) k ≡ false → found_at (line ++ rest) at k ≡ Line (at + length line)
   unfolding found_at
@@ -188,8 +188,8 @@ unfolding line_text parts_text part_text field_text is_sample
 first_field i n ns h =
     natural-back i (line_text (i ∷ n ∷ ns)) (parts_text 1 (n ∷ ns) ++ (10 ∷ [])) 0 h (append_assoc (decimal i) (parts_text 1 (n ∷ ns)) (10 ∷ [])) refl
 
-own-text : (i n : ℕ) (ns : List ℕ) → i < 2 ^ 64 → own-line i (line_text (i ∷ n ∷ ns)) ≡ line_text (i ∷ n ∷ ns)
-unfolding own-line
+own-text : (i n : ℕ) (ns : List ℕ) → i < 2 ^ 64 → own_line i (line_text (i ∷ n ∷ ns)) ≡ line_text (i ∷ n ∷ ns)
+unfolding own_line
 own-text i n ns h =
     ap (λ (t : TakenNatural). cond (is_natural i t) (line_text (i ∷ n ∷ ns)) []) (first_field i n ns h)
     ∙ ap (λ (b : Bool). cond b (line_text (i ∷ n ∷ ns)) []) (eq-eqb i i refl)
@@ -204,15 +204,15 @@ module _ (stored : Bool) (p : Player) (ram : ℕ) (queues : List ℤ) (text : Li
   unfolding take_line_queues
   take-head-queues = refl
 
-  pub take-voice : (i : ℕ) → take_line stored p ram queues (suc i) text ≡ taken_by p (voice_read_called stored p.chip queues (own-line i text))
+  pub take-voice : (i : ℕ) → take_line stored p ram queues (suc i) text ≡ taken_by p (voice_read_called stored p.chip queues (own_line i text))
   unfolding take_line
   take-voice i =
-      rw (ne_eqb (suc i) 0 (λ e. absurd (omega arith))) (ap (λ (j : ℕ). taken_by p (voice_read_called stored p.chip queues (own-line j text))) (omega arith))
+      rw (ne_eqb (suc i) 0 (λ e. absurd (omega arith))) (ap (λ (j : ℕ). taken_by p (voice_read_called stored p.chip queues (own_line j text))) (omega arith))
 
-  pub take-voice-queues : (i : ℕ) → take_line_queues stored p queues (suc i) text ≡ voice_read_queues stored p.chip queues (own-line i text)
+  pub take-voice-queues : (i : ℕ) → take_line_queues stored p queues (suc i) text ≡ voice_read_queues stored p.chip queues (own_line i text)
   unfolding take_line_queues
   take-voice-queues i =
-      rw (ne_eqb (suc i) 0 (λ e. absurd (omega arith))) (ap (λ (j : ℕ). voice_read_queues stored p.chip queues (own-line j text)) (omega arith))
+      rw (ne_eqb (suc i) 0 (λ e. absurd (omega arith))) (ap (λ (j : ℕ). voice_read_queues stored p.chip queues (own_line j text)) (omega arith))
 
 module _ (chip : Chip) (ram : ℕ) (queues : List ℤ) where
   pub head-line : state_line chip ram queues 0 ≡ head_text chip.version ram
@@ -226,6 +226,6 @@ module _ (chip : Chip) (ram : ℕ) (queues : List ℤ) where
       ∙ ap (line_of_voice chip queues) (omega arith)
 
   -- the line of a voice begins with its number
-  pub voice-own : (i : ℕ) → i < chip_voices → own-line i (state_line chip ram queues (suc i)) ≡ line_of_voice chip queues i
+  pub voice-own : (i : ℕ) → i < chip_voices → own_line i (state_line chip ram queues (suc i)) ≡ line_of_voice chip queues i
   unfolding line_of_voice voice_text field_numbers state_numbers
-  voice-own i h = ap (own-line i) (voice-line i) ∙ rw (lt-ltb i chip_voices h) (own-text i _ _ (omega arith))
+  voice-own i h = ap (own_line i) (voice-line i) ∙ rw (lt-ltb i chip_voices h) (own-text i _ _ (omega arith))

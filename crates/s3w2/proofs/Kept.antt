@@ -31,7 +31,7 @@ use Rattle.s3w2.specs.declared.Called.{Called}
 use Rattle.s3w2.specs.declared.Chip.{Chip}
 use Rattle.s3w2.specs.Answers.{is_done, answered, called}
 use Rattle.s3w2.specs.Refusals.{accepts_chip, own_refusal, ram_refusal, queues_refusal}
-use Rattle.s3w2.specs.Chips.{fresh_chip, core_at, with_core_at, on_core, of_core, on-both}
+use Rattle.s3w2.specs.Chips.{fresh_chip, core_at, with_core_at, on_core, of_core, on_both}
 use Rattle.s3w2.specs.Fresh.{under_version, made_called, set_version_called, reset_called, reset_channel_called}
 use Rattle.s3w2.specs.Ram.{write_pcm_ram_called}
 use Rattle.s3w2.specs.Channels.{write_channel_wavetable_called, write_channel_control_called, read_channel_control_called, write_channel_pcm_reg_called}
@@ -87,7 +87,7 @@ module _ (chip : Chip) (n : ℕ) (ok : accepts_chip chip n ≡ true) where
     unfolding write_pcm_ram_called
     write-pcm-ram-kept address =
         let after : (k : ℕ) → k < num_cores → AcceptedCore (after_ram_write (core_at chip k) address) chip.version n = λ k h. cores.ram-kept (core_at chip k) chip.version n (accepted k h) address in
-        let next = on-both (λ core. after_ram_write core address) chip in
+        let next = on_both (λ core. after_ram_write core address) chip in
         called-kept (ram_refusal chip n) (answered (cond (ltb address n) next chip) Done)
         (cond-by fine (ltb address n) next chip (λ e. both-accept chip n (after_ram_write (core_at chip 0) address) (after_ram_write (core_at chip 1) address) (after 0 (omega arith)) (after 1 (omega arith))) (λ e. ok))
 

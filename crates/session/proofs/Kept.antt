@@ -14,7 +14,7 @@ use Rattle.cores.specs.Sizes.{num_cores}
 use Rattle.num.proofs.Choice.{cond-by}
 use Rattle.tone.specs.Pcm.{is_ram_length}
 use Rattle.session_lines.specs.Head.{read_head}
-use Rattle.session_lines.specs.Lines.{NumberedVoice, ReadVoice, voice, malformed, queued, read-as}
+use Rattle.session_lines.specs.Lines.{NumberedVoice, ReadVoice, voice, malformed, queued, read_as}
 use Rattle.session_lines.specs.declared.HeadLine.{HeadLine}
 use Rattle.session_lines.specs.declared.HeadLine.TheVariants as head
 use Rattle.session_lines.proofs.Taken.{Told, read_told}
@@ -78,7 +78,7 @@ module _ (chip : Chip) (n : ℕ) (ok : accepts_chip chip n ≡ true) (two : leng
   pub read-voice-kept : (stored : Bool) (queues : List ℤ) (text : List ℕ) → accepts_chip (voice_read_called stored chip queues text).chip n ≡ true
   unfolding voice_read_called
   read-voice-kept stored queues text =
-      let r = read-as stored chip.version text in
+      let r = read_as stored chip.version text in
       cond-by fine (queues_lent queues) (with_state chip (voice_called chip r) (line_answered chip NotAccepted)) (line_answered chip QueueBuffer)
       (λ e. cond-by fine (state_accepted chip) (voice_called chip r) (line_answered chip NotAccepted) (λ e. line_kept r (read_told stored chip.version text)) (λ e. ok))
       (λ e. ok)

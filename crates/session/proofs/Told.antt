@@ -7,7 +7,7 @@ use native.Mathlib.Omega.{arith}
 use Rattle.cores.specs.Sizes.{chip_voices}
 use Rattle.num.proofs.Choice.{never}
 use Rattle.version.specs.declared.SguVersion.{SguVersion}
-use Rattle.session_lines.specs.Lines.{NumberedVoice, ReadVoice, voice, malformed, queued, read-as, told_of}
+use Rattle.session_lines.specs.Lines.{NumberedVoice, ReadVoice, voice, malformed, queued, read_as, told_of}
 use Rattle.session_lines.specs.declared.VoiceLine.{VoiceLine}
 use Rattle.session_lines.specs.declared.VoiceLine.TheVariants as told
 use Rattle.session_lines.proofs.Taken.{read_told}
@@ -45,6 +45,6 @@ module _ (P : ReadVoice → Type 0) where
   by-queue (malformed field) e p = never (ap is_fault e)
   by-queue queued e p = p
 
-pub read_named : (stored : Bool) (version : SguVersion) (text : List ℕ) (number : ℕ) → told_of (read-as stored version text) ≡ told.Voice number → number < chip_voices
+pub read_named : (stored : Bool) (version : SguVersion) (text : List ℕ) (number : ℕ) → told_of (read_as stored version text) ≡ told.Voice number → number < chip_voices
 read_named stored version text number e =
-    by-voice (λ (r : ReadVoice). read-as stored version text ≡ r → number < chip_voices) (read-as stored version text) number e (λ v q i. omega (arith, q, (read_told stored version text v i).named)) refl
+    by-voice (λ (r : ReadVoice). read_as stored version text ≡ r → number < chip_voices) (read_as stored version text) number e (λ v q i. omega (arith, q, (read_told stored version text v i).named)) refl

@@ -19,7 +19,7 @@ use Rattle.line_fields.specs.Reading.{ends_at, closed_at}
 use Rattle.line_fields.specs.Text.{written_of, put_of}
 use Rattle.line_fields.specs.declared.Written.TheVariants.{Length, TextBuffer}
 use Rattle.tone.specs.Pcm.{power_from, is_ram_length}
-use Rattle.version.specs.Versions.{version_number, version-of}
+use Rattle.version.specs.Versions.{version_number, version_of}
 use Rattle.version.specs.declared.SguVersion.{SguVersion}
 use Rattle.version.specs.declared.SguVersion.TheVariants.{V1, V2, V2_1, V3, V3_1}
 use Rattle.session_lines.specs.Head.{head_text, has_magic, sized_head, behind_version, head_of, read_head}
@@ -62,7 +62,7 @@ read t e a = rw (e, eq-eqb (get_or t 4 0) 44 a)
 pub over : (t : List ℕ) (n next : ℕ) → 4 < n → head_of t (Natural n next) ≡ Malformed 2
 over t n next h = rw (lt-leb n 4 h)
 
-pub within : (t : List ℕ) (n next : ℕ) → n ≤ 4 → head_of t (Natural n next) ≡ behind_version t (version-of n) next
+pub within : (t : List ℕ) (n next : ℕ) → n ≤ 4 → head_of t (Natural n next) ≡ behind_version t (version_of n) next
 within t n next h = rw (le-leb n 4 h)
 
 -- ---- behind the version

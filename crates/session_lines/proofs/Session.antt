@@ -24,7 +24,7 @@ use Rattle.registers.specs.Queue.{QuietFifo, allows_fifo}
 use Rattle.registers.proofs.Accepted.{quiet-allowed}
 use Rattle.voice.specs.declared.Channel.{Channel}
 use Rattle.session_lines.specs.Numbers.{at, state_numbers, table_numbers, queue_numbers, field_numbers, queued_of, fifo_of, channel_from}
-use Rattle.session_lines.specs.Lines.{NumberedVoice, voice, queued, voice_of, queue_told, voice_taken, voice_from, read-as, read_voice, voice_text, session_of}
+use Rattle.session_lines.specs.Lines.{NumberedVoice, voice, queued, voice_of, queue_told, voice_taken, voice_from, read_as, read_voice, voice_text, session_of}
 use Rattle.session_lines.proofs.Storing.{size-table, size-queue}
 use Rattle.session_lines.proofs.Whole.{text-is, size-states}
 use Rattle.session_lines.proofs.Back.{Whole, fields_back}
@@ -45,7 +45,7 @@ in_parts number c w q h = text-is number c w q h ∙ ap line_text (sym (append_a
 -- the line is read back as the numbers that were written
 numbers-back : (version : SguVersion) (number : ℕ) (c : Channel) (w : List ℕ) (q : List ℤ) → InRange version number c w q
     → read_voice version (voice_text number c w q) ≡ voice_taken version (at (field_numbers number c w q)) (fifo_of (at (field_numbers number c w q)))
-unfolding read-as queue_told field_numbers queue_numbers
+unfolding read_as queue_told field_numbers queue_numbers
 numbers-back version number c w q r =
     let fifo = has3ws8pna version in
     let S = state_numbers number c in

@@ -29,7 +29,7 @@ use Rattle.ticks.proofs.Ranges.{accepted-oscillator}
 use Rattle.stream.specs.Cache.{emptied}
 use Rattle.voice.specs.Accepted.{AcceptedChannel, accepts_stream}
 use Rattle.session_lines.specs.Numbers.{at, entries, low_byte, fifo_of, channel_from, table_of, queued_samples}
-use Rattle.session_lines.specs.Lines.{NumberedVoice, voice, queued, voice_of, queue_told, voice_taken, voice_from, read-as, read_voice, read_stored}
+use Rattle.session_lines.specs.Lines.{NumberedVoice, voice, queued, voice_of, queue_told, voice_taken, voice_from, read_as, read_voice, read_stored}
 use Rattle.session_lines.proofs.Storing.{size-read-table, size-samples}
 use Rattle.session_lines.proofs.Back.{Whole}
 
@@ -139,8 +139,8 @@ unfolding most_of voice_of channel_from
 numbers-told version ns queue k g = let first : at ns 0 ≤ chip_voices - 1 = g.within 0 in record { named = omega (arith, first); whole = taken-whole version ns queue k g; many = size-samples (at ns) queue.count; accepted = λ ram. taken-accepted version ns queue ram k g; cache = refl; first = k.first }
 
 -- whether it is read as a stored line or as any
-pub read_told : (stored : Bool) (version : SguVersion) (text : List ℕ) (v : NumberedVoice) → read-as stored version text ≡ voice v → Told version v
-unfolding read-as
+pub read_told : (stored : Bool) (version : SguVersion) (text : List ℕ) (v : NumberedVoice) → read_as stored version text ≡ voice v → Told version v
+unfolding read_as
 read_told stored version text v e = go (read_line (has3ws8pna version) text) refl e
   where
     go : (r : ReadLine) → read_line (has3ws8pna version) text ≡ r → voice_from stored version r ≡ voice v → Told version v
@@ -163,7 +163,7 @@ read_told stored version text v e = go (read_line (has3ws8pna version) text) ref
 -- ---- stored lines
 -- a chip with a FIFO reads them as any
 pub stored_same : (version : SguVersion) (text : List ℕ) → has3ws8pna version ≡ true → read_stored version text ≡ read_voice version text
-unfolding read-as queue_told
+unfolding read_as queue_told
 stored_same version text h = go (read_line (has3ws8pna version) text)
   where
     go : (r : ReadLine) → voice_from true version r ≡ voice_from false version r
@@ -172,7 +172,7 @@ stored_same version text h = go (read_line (has3ws8pna version) text)
 
 -- a chip without one drops what is in their queues, and refuses none for it
 pub stored-taken : (version : SguVersion) (text : List ℕ) → read_stored version text ≡ queued → ⊥
-unfolding read-as queue_told
+unfolding read_as queue_told
 stored-taken version text e = go (read_line (has3ws8pna version) text) e
   where
     go : (r : ReadLine) → voice_from true version r ≡ queued → ⊥

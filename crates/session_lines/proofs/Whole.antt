@@ -23,7 +23,7 @@ use Rattle.registers.specs.declared.Fifo.{Fifo}
 use Rattle.version.specs.declared.SguVersion.{SguVersion}
 use Rattle.voice.specs.declared.Channel.{Channel}
 use Rattle.session_lines.specs.Numbers.{at, state_numbers, table_numbers, queue_numbers, field_numbers, channel_from, table_of, queued_samples}
-use Rattle.session_lines.specs.Lines.{ReadVoice, voice, voice_of, queue_told, voice_taken, voice_from, read-as, voice_text, told_of, channel_after, table_after, queue_after}
+use Rattle.session_lines.specs.Lines.{ReadVoice, voice, voice_of, queue_told, voice_taken, voice_from, read_as, voice_text, told_of, channel_after, table_after, queue_after}
 use Rattle.session_lines.specs.Lines as lines
 use Rattle.session_lines.specs.declared.VoiceLine.TheVariants as told
 use Rattle.session_lines.proofs.Storing.{size-table, size-queue}
@@ -51,8 +51,8 @@ module _ (stored : Bool) (version : SguVersion) where
   abbrev pub by : (ℕ → ℕ) → ReadVoice
   by f = voice_taken version f (queue_told stored version f)
 
-  pub read-yes : (text : List ℕ) (fifo : Bool) (count : ℕ) (buffer : List ℕ) → fifo ≡ has3ws8pna version → Count count ≡ fields_of (read_line fifo text) → buffer ≡ sets (replicate 2330 0) 0 (line_numbers (read_line fifo text)) → read-as stored version text ≡ by (at buffer)
-  unfolding read-as
+  pub read-yes : (text : List ℕ) (fifo : Bool) (count : ℕ) (buffer : List ℕ) → fifo ≡ has3ws8pna version → Count count ≡ fields_of (read_line fifo text) → buffer ≡ sets (replicate 2330 0) 0 (line_numbers (read_line fifo text)) → read_as stored version text ≡ by (at buffer)
+  unfolding read_as
   read-yes text fifo count buffer e f g = ap (λ (b : Bool). voice_from stored version (read_line b text)) (sym e) ∙ go (read_line fifo text) refl
     where
       go : (r : ReadLine) → read_line fifo text ≡ r → voice_from stored version (read_line fifo text) ≡ by (at buffer)
@@ -62,8 +62,8 @@ module _ (stored : Bool) (version : SguVersion) where
           ap (voice_from stored version) q ∙ (λ i. by (λ k. same k i))
       go (malformed ns field) q = let z : Count count ≡ Malformed field = f ∙ ap fields_of q in (cc)
 
-  pub read_no : (text : List ℕ) (fifo : Bool) (field : ℕ) → fifo ≡ has3ws8pna version → Malformed field ≡ fields_of (read_line fifo text) → read-as stored version text ≡ lines.malformed field
-  unfolding read-as
+  pub read_no : (text : List ℕ) (fifo : Bool) (field : ℕ) → fifo ≡ has3ws8pna version → Malformed field ≡ fields_of (read_line fifo text) → read_as stored version text ≡ lines.malformed field
+  unfolding read_as
   read_no text fifo field e f = ap (λ (b : Bool). voice_from stored version (read_line b text)) (sym e) ∙ go (read_line fifo text) refl
     where
       go : (r : ReadLine) → read_line fifo text ≡ r → voice_from stored version (read_line fifo text) ≡ lines.malformed field

@@ -12,7 +12,7 @@ use Rattle.cores.specs.Sizes.{chip_voices}
 use Rattle.version.specs.declared.SguVersion.{SguVersion}
 use Rattle.ticks.proofs.Ranges.{accepted-oscillator, oscillator-accepted}
 use Rattle.voice.specs.declared.Channel.{Channel}
-use Rattle.session_lines.specs.Lines.{NumberedVoice, session_of, ReadVoice, voice, malformed, queued, read-as, read_voice, read_stored, channel_after, table_after, queue_after}
+use Rattle.session_lines.specs.Lines.{NumberedVoice, session_of, ReadVoice, voice, malformed, queued, read_as, read_voice, read_stored, channel_after, table_after, queue_after}
 use Rattle.session_lines.proofs.Heads.{head-back}
 use Rattle.session_lines.proofs.Back.{Whole}
 use Rattle.session_lines.proofs.Session.{voice-back}
@@ -23,7 +23,7 @@ use Rattle.plain_chip.specs.Voices.{PlainVoice}
 use Rattle.plain_chip.specs.Good.{FitVoice}
 use Rattle.call_lists.specs.Texts as texts
 use Rattle.call_lists.specs.Texts.{TextsOk, Told}
-use Rattle.session_texts.specs.Session.{plain_voice_of, voice_read, head-read, session}
+use Rattle.session_texts.specs.Session.{plain_voice_of, voice_read, head_read, session}
 use Rattle.session_texts.proofs.Written.{own-line}
 
 -- ---- the channel that is read has its fields, an empty cache and the queue's head at 0
@@ -87,13 +87,13 @@ fields-whole version v f = record {
   table = f.table;
 }
 
-ranges : (stored : Bool) (version : SguVersion) (text : List ℕ) (v : NumberedVoice) → read-as stored version text ≡ voice v → (v.number < chip_voices) × FitVoice version (plain_voice_of v)
+ranges : (stored : Bool) (version : SguVersion) (text : List ℕ) (v : NumberedVoice) → read_as stored version text ≡ voice v → (v.number < chip_voices) × FitVoice version (plain_voice_of v)
 ranges stored version text v e = let t = read_told stored version text v e in (t.named, whole_fields version v t.whole t.many)
 
 -- ---- what a session's lines promise
 pub session-is-ok : TextsOk session
 session-is-ok = record {
-  head-back = λ version size allowed. ap head-read (head-back version size allowed);
+  head-back = λ version size allowed. ap head_read (head-back version size allowed);
   told = λ version text. go version (read_voice version text) (ranges false version text);
   stored-told = λ version text. go version (read_stored version text) (ranges true version text);
   voice-back = λ version n v h fit. ap voice_read (voice-back version n (channel_with v) v.wavetable v.queue.samples (omega arith) (fields-whole version v fit)) ∙ ap (texts.voice n) (fields_back n v fit.full);

@@ -20,7 +20,7 @@ use Rattle.log_resume.proofs.Cuts.{held-line, held-played}
 use Rattle.timed_log.specs.declared.Clockwork.{Clockwork}
 use Rattle.timed_log.specs.Unrolled.{clock_most, clock_line, no_frames, applied}
 use Rattle.timed_as_plain.specs.Scores.{DueLine, score, gap_lines, unrolled_lines, sounded}
-use Rattle.timed_as_plain.specs.Frames.{due_at, last_stamp, frames_played, by-frames, ByFrames}
+use Rattle.timed_as_plain.specs.Frames.{due_at, last_stamp, frames_played, by_frames, ByFrames}
 use Rattle.timed_as_plain.proofs.Lines.{clock-line, clock-playable, gap-playable, gap-none, gap-small, gap_more}
 use Rattle.timed_as_plain.proofs.Plays.{played-append, sounded-append}
 use Rattle.timed_as_plain.proofs.AsPlain.{PlayableDue, dues-playable}
@@ -48,7 +48,7 @@ abbrev one : World → Does
 one w = does (after_line w (Clock 1)) (printed w (Clock 1))
 
 abbrev frames : World → ℕ → ℕ → List DueLine → Does
-frames w f n ds = does (frames_played w f n ds) (by-frames w f n ds)
+frames w f n ds = does (frames_played w f n ds) (by_frames w f n ds)
 
 then_same : (a : Does) (f g : World → Does) → f a.after ≡ g a.after → and_then a f ≡ and_then a g
 then_same a f g e = ap (λ (x : Does). does x.after (a.text ++ x.text)) e
@@ -67,12 +67,12 @@ lines-append a b w = λ i. does (played-append a b w i) (sounded-append a b w i)
 
 -- ---- frames without lines
 shift : (n : ℕ) (w : World) (f g : ℕ) → frames w f n [] ≡ frames w g n []
-unfolding frames_played by-frames
+unfolding frames_played by_frames
 shift zero w f g = refl
 shift (suc n) w f g = then_same (one w) (λ (u : World). frames u (suc f) n []) (λ (u : World). frames u (suc g) n []) (shift n (after_line w (Clock 1)) (suc f) (suc g))
 
 frames-add : (a : ℕ) (w : World) (f b : ℕ) (ds : List DueLine) → frames w f (a + b) ds ≡ and_then (frames w f a ds) (λ (v : World). frames v (f + a) b ds)
-unfolding frames_played by-frames
+unfolding frames_played by_frames
 frames-add zero w f b ds = ap (λ (i : ℕ). frames w f i ds) (let e : 0 + b ≡ b = omega arith in e) ∙ ap (λ (i : ℕ). frames w i b ds) (let e : f ≡ f + 0 = omega arith in e)
 frames-add (suc a) w f b ds =
     let due = lines w (due_at f ds) in
@@ -88,7 +88,7 @@ frames-add (suc a) w f b ds =
 
 -- a `C` line
 clock-frames : (n : ℕ) (w : World) → Held w → suc n ≤ clock_most → does (after_line w (Clock (suc n))) (printed w (Clock (suc n))) ≡ frames w 0 (suc n) []
-unfolding frames_played by-frames
+unfolding frames_played by_frames
 clock-frames zero w h l = sym (then-none (one w))
 clock-frames (suc n) w h l =
     let s = clock-splits (suc n) w 1 (omega arith) (omega arith) (omega arith) h in
@@ -104,7 +104,7 @@ clock-lines (suc n) w h a b =
     ∙ ap (λ (l : Line). does (after_line w l) (printed w l)) (clock-line (suc n) a b) ∙ clock-frames n w h b
 
 frames-none : (w : World) (f : ℕ) (ds : List DueLine) → does w [] ≡ frames w f 0 ds
-unfolding frames_played by-frames
+unfolding frames_played by_frames
 frames-none w f ds = refl
 
 none-gap : (gap : ℕ) (w : World) → gap ≡ 0 → lines w (gap_lines gap) ≡ frames w 0 gap []
@@ -153,7 +153,7 @@ here-due : (d : DueLine) (ds : List DueLine) → due_at d.stamp (d ∷ ds) ≡ d
 here-due d ds = ap (λ (b : Bool). cond b (d.line ∷ due_at d.stamp ds) (due_at d.stamp ds)) (eq-eqb d.stamp d.stamp refl)
 
 frames-step : (w : World) (f n : ℕ) (ds : List DueLine) → frames w f (suc n) ds ≡ and_then (lines w (due_at f ds)) (λ (v : World). and_then (one v) (λ (u : World). frames u (suc f) n ds))
-unfolding frames_played by-frames
+unfolding frames_played by_frames
 frames-step w f n ds = refl
 
 -- frames behind it do not know it

@@ -15,7 +15,7 @@ use Rattle.log_player.specs.declared.Next.TheVariants.{Line, Rest}
 use Rattle.log_player.specs.Worlds.{World}
 use Rattle.log_player.specs.Applied.{after_line, printed}
 use Rattle.log_player.specs.Steps.{first_line, next_of}
-use Rattle.log_player.specs.Runs.{has-room, Spot, spot, is_line, Run, stops_at, run_from}
+use Rattle.log_player.specs.Runs.{has_room, Spot, spot, is_line, Run, stops_at, run_from}
 use Rattle.log_player.proofs.Spots.{plays-line, plays-none, plays-full, found-there, found-full, run-next, run-stops}
 use Rattle.plain_chip.specs.Lists.{Every}
 use Rattle.log_resume.specs.Cuts.{no_end, Playable, half, played}
@@ -72,14 +72,14 @@ module _ (room : ℕ) (input : List ℕ) where
   abbrev at : World → ℕ → ℕ → List ℕ → Run
   at w number from text = run_from room input (spot w number from text)
 
-  full : (w : World) (number from : ℕ) (text : List ℕ) (lines : List (List ℕ)) → has-room room (length text) number ≡ false → Stopped w from text lines (at w number from text)
+  full : (w : World) (number from : ℕ) (text : List ℕ) (lines : List (List ℕ)) → has_room room (length text) number ≡ false → Stopped w from text lines (at w number from text)
   full w number from text lines e =
       let s = spot w number from text in
       subst (Stopped w from text lines) (sym (run-stops room input s (plays-full room input s e) ∙ ap (stops_at s) (found-full room input s e)))
       (record { done = []; left = lines; split = refl; world = refl; at = omega arith; printed = refl; next = some from refl })
 
   pub stops : (lines : List (List ℕ)) (w : World) (number from : ℕ) (text : List ℕ) → Every Playable lines → drop from input ≡ half lines → Stopped w from text lines (at w number from text)
-  stops [] w number from text p e = go (has-room room (length text) number) refl
+  stops [] w number from text p e = go (has_room room (length text) number) refl
     where
       s : Spot
       s = spot w number from text
@@ -87,12 +87,12 @@ module _ (room : ℕ) (input : List ℕ) where
       none : next_of (drop from input) from ≡ Rest
       none = ap (λ (l : List ℕ). next_of l from) e ∙ next-none from
 
-      go : (b : Bool) → has-room room (length text) number ≡ b → Stopped w from text [] (at w number from text)
+      go : (b : Bool) → has_room room (length text) number ≡ b → Stopped w from text [] (at w number from text)
       go false h = full w number from text [] h
       go true h =
           subst (Stopped w from text []) (sym (run-stops room input s (plays-none room input s (ap is_line none)) ∙ ap (stops_at s) (found-there room input s h ∙ none)))
           (record { done = []; left = []; split = refl; world = refl; at = omega arith; printed = refl; next = all refl refl })
-  stops (line ∷ lines) w number from text p e = go (has-room room (length text) number) refl (λ v n f t d. stops lines v n f t p.1 d)
+  stops (line ∷ lines) w number from text p e = go (has_room room (length text) number) refl (λ v n f t d. stops lines v n f t p.1 d)
     where
       s : Spot
       s = spot w number from text
@@ -111,7 +111,7 @@ module _ (room : ℕ) (input : List ℕ) where
       Next' : Type 0
       Next' = (v : World) (n f : ℕ) (t : List ℕ) → drop f input ≡ half lines → Stopped v f t lines (at v n f t)
 
-      go : (b : Bool) → has-room room (length text) number ≡ b → Next' → Stopped w from text (line ∷ lines) (at w number from text)
+      go : (b : Bool) → has_room room (length text) number ≡ b → Next' → Stopped w from text (line ∷ lines) (at w number from text)
       go false h ih = full w number from text (line ∷ lines) h
       go true h ih =
           let after = after_line w (parsed_line line) in

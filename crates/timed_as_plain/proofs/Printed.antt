@@ -22,13 +22,13 @@ use Rattle.timed_log.specs.declared.Clockwork.{Clockwork}
 use Rattle.timed_log.specs.Lines.{bad_number}
 use Rattle.timed_log.specs.Unrolled.{clock_line, no_frames}
 use Rattle.timed_log.specs.Turns.{Stand, stand, Turn, turn_over}
-use Rattle.timed_log.specs.Ends.{last_text, sounds_last, run-none, last_run, told_last, last_told}
+use Rattle.timed_log.specs.Ends.{last_text, sounds_last, run_none, last_run, told_last, last_told}
 use Rattle.timed_as_plain.specs.Scores.{over, stop, ends, scored, sounded, closing, left_text, timed_text}
 use Rattle.timed_as_plain.specs.Prints.{rest_of, refilled, Prints, again, more, last, bad}
 use Rattle.timed_as_plain.proofs.Lines.{clock-playable}
 use Rattle.timed_as_plain.proofs.Scored.{score-open, open-all}
 use Rattle.timed_as_plain.proofs.Plays.{Where, all, some, Stopped, stops}
-use Rattle.timed_as_plain.proofs.Turned.{Waits, left-over, Goes, Rests, After, turn-after}
+use Rattle.timed_as_plain.proofs.Turned.{Waits, left_over, Goes, Rests, After, turn-after}
 
 -- ---- the end
 last-text : half (clock_line 1 ∷ []) ≡ last_text
@@ -61,8 +61,8 @@ module _ (room : ℕ) (w : World) (k : Clockwork) (number : ℕ) where
       lines : Bool → List (List ℕ)
       lines b = cond b (clock_line 1 ∷ []) []
 
-      go : (b : Bool) → (cond b (log_run room last_text (spot w 1 0 [])) (run-none w)).next ≡ Rest
-          → last_told number 0 (cond b (log_run room last_text (spot w 1 0 [])) (run-none w)) ≡ sounded w (lines b) ++ end_text (played w (lines b)).player 0 0
+      go : (b : Bool) → (cond b (log_run room last_text (spot w 1 0 [])) (run_none w)).next ≡ Rest
+          → last_told number 0 (cond b (log_run room last_text (spot w 1 0 [])) (run_none w)) ≡ sounded w (lines b) ++ end_text (played w (lines b)).player 0 0
       go false e = refl
       go true e =
           let o = sounds-one room w e in
@@ -85,7 +85,7 @@ module _ (room : ℕ) (w : World) (k : Clockwork) (number : ℕ) where
 after-by : (s : Stand) (lines : List (List ℕ)) (input : List ℕ) (t : Turn) (next : Next) → t.next ≡ next → After s lines input t t.next → After s lines input t next
 after-by s lines input t next e a = subst (After s lines input t) e a
 
-pub prints : (room : ℕ) (s : Stand) (input : List ℕ) (parts : List (List ℕ)) (text : List ℕ) → Prints room s input parts text → (lines : List (List ℕ)) → Waits s lines → text ≡ left-over s lines input (joined parts)
+pub prints : (room : ℕ) (s : Stand) (input : List ℕ) (parts : List (List ℕ)) (text : List ℕ) → Prints room s input parts text → (lines : List (List ℕ)) → Waits s lines → text ≡ left_over s lines input (joined parts)
 prints room _ _ _ _ (again s input parts place text' e p) lines h =
     let t = turn_over room input s in
     let g : Goes s lines input t = after-by s lines input t (Line place) e (turn-after room input s lines h) in

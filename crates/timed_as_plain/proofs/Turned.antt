@@ -24,7 +24,7 @@ use Rattle.timed_log.specs.declared.Ahead.{Ahead}
 use Rattle.timed_log.specs.declared.Ahead.TheVariants as ahead
 use Rattle.timed_log.specs.Lines.{longest, due_of, bad_number, judged, placed, next_due}
 use Rattle.timed_log.specs.Unrolls.{Reach, reach, unroll_from}
-use Rattle.timed_log.specs.Turns.{Stand, stand, Turn, turn, left_of, goes-on, played_as, played_on, next_at, told_as, told, stands_at, written_out, turn_over}
+use Rattle.timed_log.specs.Turns.{Stand, stand, Turn, turn, left_of, goes_on, played_as, played_on, next_at, told_as, told, stands_at, written_out, turn_over}
 use Rattle.timed_log.proofs.Found.{first-split}
 use Rattle.timed_log.proofs.Reaching.{unroll-within}
 use Rattle.timed_as_plain.specs.Scores.{Score, stop, ends, line_scored, scored, unrolled_lines, sounded, closing, left_text}
@@ -42,13 +42,13 @@ pub record Waits (s : Stand) (lines : List (List ℕ)) : Type 0 where
   pub playable : Every Playable lines
 
 -- what is left to print
-abbrev pub left-over : Stand → List (List ℕ) → List ℕ → List ℕ → List ℕ
-left-over s lines input more = left_text s.world lines s.clock.frames (scored s.clock s.number [] (drop s.place input ++ more))
+abbrev pub left_over : Stand → List (List ℕ) → List ℕ → List ℕ → List ℕ
+left_over s lines input more = left_text s.world lines s.clock.frames (scored s.clock s.number [] (drop s.place input ++ more))
 
 pub record Goes (s : Stand) (lines : List (List ℕ)) (input : List ℕ) (t : Turn) : Type 0 where
   pub waiting : List (List ℕ)
   pub waits : Waits t.stand waiting
-  pub left : (more : List ℕ) → left-over s lines input more ≡ t.text ++ left-over t.stand waiting input more
+  pub left : (more : List ℕ) → left_over s lines input more ≡ t.text ++ left_over t.stand waiting input more
 
 pub record Rests (s : Stand) (lines : List (List ℕ)) (input : List ℕ) (t : Turn) : Type 0 where
   pub goes : Goes s lines input t
@@ -58,7 +58,7 @@ pub record Rests (s : Stand) (lines : List (List ℕ)) (input : List ℕ) (t : T
 abbrev pub After : Stand → List (List ℕ) → List ℕ → Turn → Next → Type 0
 After s lines input t (Line place) = Goes s lines input t
 After s lines input t Rest = Rests s lines input t
-After s lines input t (Bad why) = (more : List ℕ) → left-over s lines input more ≡ t.text
+After s lines input t (Bad why) = (more : List ℕ) → left_over s lines input more ≡ t.text
 After s lines input t (Refused why) = Unit {0}
 
 -- ---- some lines played
@@ -137,21 +137,21 @@ module _ (room : ℕ) (input : List ℕ) (s : Stand) (lines : List (List ℕ)) (
   ran : (r : Run) → Stopped s.world s.from [] lines r → After s lines input (played_as s r) (played_as s r).next
   ran r t = go r.next refl t.next
     where
-      split : (more : List ℕ) → left-over s lines input more ≡ r.text ++ left_text r.world t.left s.clock.frames (scored s.clock s.number [] (drop s.place input ++ more))
+      split : (more : List ℕ) → left_over s lines input more ≡ r.text ++ left_text r.world t.left s.clock.frames (scored s.clock s.number [] (drop s.place input ++ more))
       split more =
           let sc = scored s.clock s.number [] (drop s.place input ++ more) in
           ap (λ (l : List (List ℕ)). left_text s.world l s.clock.frames sc) t.split
           ∙ left_split t.done t.left s.world s.clock.frames sc
           ∙ ap₂ (λ (x : List ℕ) (v : World). x ++ left_text v t.left s.clock.frames sc) (sym t.printed) (sym t.world)
 
-      all_done : t.left ≡ [] → (next : Next) → left_of s.end r.from next ≡ s.end → Goes s lines input (turn (stand r.world s.clock s.plain (left_of s.end r.from next) s.end s.place s.number) (goes-on s.place next) r.text)
+      all_done : t.left ≡ [] → (next : Next) → left_of s.end r.from next ≡ s.end → Goes s lines input (turn (stand r.world s.clock s.plain (left_of s.end r.from next) s.end s.place s.number) (goes_on s.place next) r.text)
       all_done e next f = record {
         waiting = [];
         waits = record { front = text; is = sym (append-nil text); at = f ∙ sym (part_length s h.within); within = h.within; playable = tt };
         left = λ more. split more ∙ ap (λ (l : List (List ℕ)). r.text ++ left_text r.world l s.clock.frames (scored s.clock s.number [] (drop s.place input ++ more))) e;
       }
 
-      not-all : (place : ℕ) → Goes s lines input (turn (stand r.world s.clock s.plain r.from s.end s.place s.number) (goes-on s.place (Line place)) r.text)
+      not-all : (place : ℕ) → Goes s lines input (turn (stand r.world s.clock s.plain r.from s.end s.place s.number) (goes_on s.place (Line place)) r.text)
       not-all place = record {
         waiting = t.left;
         waits = record {
@@ -164,7 +164,7 @@ module _ (room : ℕ) (input : List ℕ) (s : Stand) (lines : List (List ℕ)) (
         left = split;
       }
 
-      go : (next : Next) → r.next ≡ next → Where t.left r.next → After s lines input (turn (stand r.world s.clock s.plain (left_of s.end r.from next) s.end s.place s.number) (goes-on s.place next) r.text) (goes-on s.place next)
+      go : (next : Next) → r.next ≡ next → Where t.left r.next → After s lines input (turn (stand r.world s.clock s.plain (left_of s.end r.from next) s.end s.place s.number) (goes_on s.place next) r.text) (goes_on s.place next)
       go (Line place) e w = not-all place
       go Rest e (all l q) = all_done l Rest refl
       go Rest e (some place q) = never (sym (ap is_line (sym e ∙ q)))
@@ -190,8 +190,8 @@ module _ (room : ℕ) (input : List ℕ) (s : Stand) (lines : List (List ℕ)) (
     nothing : (plain : List ℕ) → Waits (stand s.world s.clock plain 0 0 s.place s.number) []
     nothing plain = record { front = []; is = refl; at = refl; within = omega arith; playable = tt }
 
-    empty : (more : List ℕ) → left-over s lines input more ≡ left-over s [] input more
-    empty more = ap (λ (l : List (List ℕ)). left-over s l input more) no_lines
+    empty : (more : List ℕ) → left_over s lines input more ≡ left_over s [] input more
+    empty more = ap (λ (l : List (List ℕ)). left_over s l input more) no_lines
 
     -- it is told why
     told-after : After s lines input (told input s) (told input s).next

@@ -144,12 +144,12 @@ module _ (room : ℕ) (input : List ℕ) where
       none zero = unroll-zero s
       none (suc n) = unroll-none n s h
 
-  abbrev no-line : List ℕ
-  no-line = 1 ∷ 2 ∷ []
+  abbrev no_line : List ℕ
+  no_line = 1 ∷ 2 ∷ []
 
-  stays : (n : ℕ) (s : Reach) (a : Ahead) → OneOf no-line (tag_of the_type a) → ahead_of input s ≡ a → unroll_on room input (suc n) s ≡ s
+  stays : (n : ℕ) (s : Reach) (a : Ahead) → OneOf no_line (tag_of the_type a) → ahead_of input s ≡ a → unroll_on room input (suc n) s ≡ s
   unfolding unroll_on
-  stays n s (Line stamp from to) t e = absurd (miss no-line 0 tt t)
+  stays n s (Line stamp from to) t e = absurd (miss no_line 0 tt t)
   stays n s Rest t e = rw e (go (has_place room (length s.text) s.number))
     where
       go : (b : Bool) → cond b s s ≡ s
@@ -161,7 +161,7 @@ module _ (room : ℕ) (input : List ℕ) where
       go true = refl
       go false = refl
 
-  pub unroll-stays : (s : Reach) (a : Ahead) → OneOf no-line (tag_of the_type a) → ahead_of input s ≡ a → unroll_from room input s ≡ s
+  pub unroll-stays : (s : Reach) (a : Ahead) → OneOf no_line (tag_of the_type a) → ahead_of input s ≡ a → unroll_from room input s ≡ s
   unfolding unroll_from
   unroll-stays s a t e = none room
     where

@@ -26,8 +26,8 @@ use Rattle.timed_log.specs.declared.TimedRan.{TimedRan}
 use Rattle.timed_log.specs.Lines.{next_due}
 use Rattle.timed_log.specs.Unrolled.{no_frames}
 use Rattle.timed_log.specs.Unrolls.{Reach, reach, unroll_from, unrolled_to}
-use Rattle.timed_log.specs.Turns.{Stand, stand, Turn, turn, left_of, goes-on, played_as, played_on, next_at, told_as, told, stands_at, written_out, turn_over, standing, timed_to, made_timed}
-use Rattle.timed_log.specs.Ends.{last_text, sounds_last, run-none, last_run, told_last, last_told}
+use Rattle.timed_log.specs.Turns.{Stand, stand, Turn, turn, left_of, goes_on, played_as, played_on, next_at, told_as, told, stands_at, written_out, turn_over, standing, timed_to, made_timed}
+use Rattle.timed_log.specs.Ends.{last_text, sounds_last, run_none, last_run, told_last, last_told}
 
 -- ---- what was written out is played
 abbrev pub Plays : ℕ → List ℕ → Turn → TimedRan → List ℕ → List ℤ → List ℕ → Type 0
@@ -42,7 +42,7 @@ module _ (room : ℕ) (s : Stand) (text : List ℕ) (t : text ≡ part s.plain 0
   played-is = ap (λ (l : List ℕ). played_as s (log_run room l (spot s.world 1 s.from []))) t
 
   pub plays : (r : Ran) (left : ℕ) (next : Next) (ram : List ℕ) (queues : List ℤ) (out now : List ℕ) → (r ≡ ran_to ran) × ((ram ≡ ran.world.ram) × ((queues ≡ ran.world.queues) × ((now ≡ sets out 0 ran.text) × (length ran.text ≤ room))))
-      → left ≡ left_of s.end r.from r.next → next ≡ goes-on s.place r.next
+      → left ≡ left_of s.end r.from r.next → next ≡ goes_on s.place r.next
       → Plays room out (played_on room s) (record { timed = record { player = r.player; clock = s.clock; from = left; end = s.end }; next = next; from = s.place; number = s.number; end = r.end }) ram queues now
   plays r left next ram queues out now e l n =
       subst (λ (x : Turn). Plays room out x (record { timed = record { player = r.player; clock = s.clock; from = left; end = s.end }; next = next; from = s.place; number = s.number; end = r.end }) ram queues now) played-is (
@@ -59,8 +59,8 @@ module _ (room : ℕ) (s : Stand) (text : List ℕ) (t : text ≡ part s.plain 0
       from : left ≡ left_of s.end ran.from ran.next
       from = l ∙ ap (λ (x : Ran). left_of s.end x.from x.next) e.0
 
-      comes : next ≡ goes-on s.place ran.next
-      comes = n ∙ ap (λ (x : Ran). goes-on s.place x.next) e.0
+      comes : next ≡ goes_on s.place ran.next
+      comes = n ∙ ap (λ (x : Ran). goes_on s.place x.next) e.0
 
       end : r.end ≡ min (length ran.text) room
       end =
@@ -203,7 +203,7 @@ module _ (w : World) (k : Clockwork) (rest : ℕ) (out : List ℕ) (t : Bool) (s
   unfolding last_run
   lasts r ram queues now e l = rw (sym s ∙ e) l
 
-  pub lasts-none : t ≡ false → Lasts (last_run (length out) w k rest) out (ran_to (run-none w)) w.ram w.queues out
+  pub lasts-none : t ≡ false → Lasts (last_run (length out) w k rest) out (ran_to (run_none w)) w.ram w.queues out
   unfolding last_run
   lasts-none e = rw (sym s ∙ e) (refl, (refl, (refl, (refl, omega arith))))
 

@@ -4,7 +4,7 @@ use mathlib.Core.List.{List, [], ◌∷◌}
 use Prim.Native.Nat.{ℕ}
 use Rattle.version.specs.declared.SguVersion.TheVariants.{V1, V2_1, V3, V3_1}
 use Rattle.version.specs.Spaces.{among, space_width, leading, trailing, trim_start_in, trim_end_in}
-use Rattle.version.specs.Names.{drop_v, same-text, named_version, parse_version}
+use Rattle.version.specs.Names.{drop_v, same_text, named_version, parse_version}
 use Rattle.version.specs.declared.Parsed.{Parsed}
 use Rattle.version.specs.declared.Parsed.TheVariants.{Version, Unknown}
 
@@ -25,5 +25,5 @@ pub examples : parsed
     ∷ ((224 ∷ (128 ∷ (160 ∷ (49 ∷ []))))
     ∷ ([] ∷ [])))))))))
     ≡ Version V1 ∷ (Version V2_1 ∷ (Version V3 ∷ (Version V3_1 ∷ (Unknown ∷ (Unknown ∷ (Unknown ∷ (Unknown ∷ (Unknown ∷ []))))))))
-unfolding parse_version named_version same-text drop_v trim_start_in trim_end_in leading trailing space_width among
+unfolding parse_version named_version same_text drop_v trim_start_in trim_end_in leading trailing space_width among
 examples = refl

@@ -12,7 +12,7 @@ use lib.Seq.{drop-cons, drop-drop, take-take, length-take-le}
 use borrow.Author.Tests.{eq-eqb, ne_eqb}
 use Rattle.version.specs.Spaces.{among, one_byte, two_bytes, three_bytes, space_width, one_byte_at, two_bytes_at, three_bytes_at, leading, trailing, trim_start_in, trim_end_in, trim_start, trim_end}
 use Rattle.version.specs.declared.SguVersion.TheVariants.{V1, V2, V2_1, V3, V3_1}
-use Rattle.version.specs.Names.{is_v, drop_v, same-text, either_text, digit_name, point, named_version, parse_version}
+use Rattle.version.specs.Names.{is_v, drop_v, same_text, either_text, digit_name, point, named_version, parse_version}
 use Rattle.version.specs.declared.Parsed.TheVariants.{Version, Unknown}
 
 -- ---- a table
@@ -65,28 +65,28 @@ either_first a b e = rw e
 pub either_second : (a b : Bool) → a ≡ false → b ≡ (a || b)
 either_second a b e = rw e
 
-pub same-lengths : (s t : List ℕ) → (length s ≡ length t → ⊥) → same-text s t ≡ false
-unfolding same-text
+pub same-lengths : (s t : List ℕ) → (length s ≡ length t → ⊥) → same_text s t ≡ false
+unfolding same_text
 same-lengths [] [] h = absurd (h refl)
 same-lengths [] (b ∷ t) h = refl
 same-lengths (a ∷ s) [] h = refl
 same-lengths (a ∷ s) (b ∷ t) h = at (eqb a b) (same-lengths s t (λ e. h (ap suc e)))
   where
-    at : (e : Bool) → same-text s t ≡ false → cond e (same-text s t) false ≡ false
+    at : (e : Bool) → same_text s t ≡ false → cond e (same_text s t) false ≡ false
     at true f = f
     at false f = refl
 
 module _ (s t : List ℕ) (i : ℕ) where
-  pub same_next : i < length s → i < length t → get_or s i 0 ≡ get_or t i 0 → same-text (drop i s) (drop i t) ≡ same-text (drop (i + 1) s) (drop (i + 1) t)
-  unfolding same-text
+  pub same_next : i < length s → i < length t → get_or s i 0 ≡ get_or t i 0 → same_text (drop i s) (drop i t) ≡ same_text (drop (i + 1) s) (drop (i + 1) t)
+  unfolding same_text
   same_next h l e = rw (add-one i, drop-cons s i 0 h, drop-cons t i 0 l, eq-eqb (get_or s i 0) (get_or t i 0) e)
 
-  pub same_stop : i < length s → i < length t → (get_or s i 0 ≡ get_or t i 0 → ⊥) → same-text (drop i s) (drop i t) ≡ false
-  unfolding same-text
+  pub same_stop : i < length s → i < length t → (get_or s i 0 ≡ get_or t i 0 → ⊥) → same_text (drop i s) (drop i t) ≡ false
+  unfolding same_text
   same_stop h l e = rw (drop-cons s i 0 h, drop-cons t i 0 l, ne_eqb (get_or s i 0) (get_or t i 0) e)
 
-  pub same_end : length s ≤ i → length t ≤ i → same-text (drop i s) (drop i t) ≡ true
-  unfolding same-text
+  pub same_end : length s ≤ i → length t ≤ i → same_text (drop i s) (drop i t) ≡ true
+  unfolding same_text
   same_end h l = rw (drop_of_length-le s h, drop_of_length-le t l)
 
 -- ---- letters v
@@ -183,21 +183,21 @@ module _ (s : List ℕ) where
     named-2 b = rw (a, b)
 
     module _ (b : either_text s (digit_name 2) (point 2 0) ≡ false) where
-      pub named-2-1 : same-text s (point 2 1) ≡ true → Version V2_1 ≡ named_version s
+      pub named-2-1 : same_text s (point 2 1) ≡ true → Version V2_1 ≡ named_version s
       unfolding named_version
       named-2-1 d = rw (a, b, d)
 
-      module _ (d : same-text s (point 2 1) ≡ false) where
+      module _ (d : same_text s (point 2 1) ≡ false) where
         pub named-3 : either_text s (digit_name 3) (point 3 0) ≡ true → Version V3 ≡ named_version s
         unfolding named_version
         named-3 e = rw (a, b, d, e)
 
         module _ (e : either_text s (digit_name 3) (point 3 0) ≡ false) where
-          pub named-3-1 : same-text s (point 3 1) ≡ true → Version V3_1 ≡ named_version s
+          pub named-3-1 : same_text s (point 3 1) ≡ true → Version V3_1 ≡ named_version s
           unfolding named_version
           named-3-1 f = rw (a, b, d, e, f)
 
-          pub named_none : same-text s (point 3 1) ≡ false → Unknown ≡ named_version s
+          pub named_none : same_text s (point 3 1) ≡ false → Unknown ≡ named_version s
           unfolding named_version
           named_none f = rw (a, b, d, e, f)
 

@@ -3,7 +3,7 @@ use mathlib.Core.Path.{sym, ap, ◌∙◌}
 use borrow.Author.Tests.{not-true, not-false}
 use Rattle.session.specs.declared.LineAnswer.TheVariants.{Done}
 use Rattle.s3w2.specs.declared.Chip.{Chip}
-use Rattle.session_lines.specs.Lines.{read-as}
+use Rattle.session_lines.specs.Lines.{read_as}
 use Rattle.session.specs.Answers.{line_answered}
 use Rattle.session.specs.Voices.{voice_read_called, voice_read_queues}
 use Rattle.session.proofs.Told.{read_named}
@@ -76,7 +76,7 @@ returns-3 c =
     let a = s.before.before.before.args in
     let e = sym s.accepted.ensures ∙ not-false _ k.before.if2.false in
     let n = s.before.if1.false in
-    let r = read-as a.stored a.chip.version a.text.now in
+    let r = read_as a.stored a.chip.version a.text.now in
     let v = sym k.check-voice.ensures.0 ∙ l.line.given.1 in
     let d = c.before.before.load in (
       c.answers3.ensures ∙ ap (λ (x : Chip). line_answered x Done) d.ensures.0 ∙ voice-called r _ v a.chip ∙ goes-on a.chip a.queues.now _ _ _ n e,
@@ -92,7 +92,7 @@ returns-4 c =
     let a = s.before.before.before.args in
     let e = sym s.accepted.ensures ∙ not-false _ k.before.if2.false in
     let n = s.before.if1.false in
-    let r = read-as a.stored a.chip.version a.text.now in
+    let r = read_as a.stored a.chip.version a.text.now in
     let v = sym k.check-voice.ensures.0 ∙ l.line2.given.1 in
     (c.answers4.ensures ∙ fault-called r _ v a.chip ∙ goes-on a.chip a.queues.now _ _ _ n e, fault-queues r _ v a.queues.now ∙ goes-on a.chip a.queues.now _ _ _ n e)
 
@@ -105,7 +105,7 @@ returns-5 c =
     let a = s.before.before.before.args in
     let e = sym s.accepted.ensures ∙ not-false _ k.before.if2.false in
     let n = s.before.if1.false in
-    let r = read-as a.stored a.chip.version a.text.now in
+    let r = read_as a.stored a.chip.version a.text.now in
     let v = sym k.check-voice.ensures.0 ∙ l.enum_told.given.1 in
     (c.answers5.ensures ∙ queue-called r v a.chip ∙ goes-on a.chip a.queues.now _ _ _ n e, queue-queues r v a.queues.now ∙ goes-on a.chip a.queues.now _ _ _ n e)
 

@@ -2,13 +2,13 @@ use mathlib.Core.Path.{◌≡◌, refl, sym, ◌∙◌}
 use Prim.Native.Nat.{◌-◌, ◌≤◌}
 use lib.ListN.{length, drop}
 use native.Mathlib.Omega.{arith}
-use Rattle.version.specs.Names.{same-text}
+use Rattle.version.specs.Names.{same_text}
 use Rattle.version.proofs.Texts.{same-lengths, same_next, same_stop, same_end}
 use Rattle.version.proofs.names.is_text.Statement.{statement}
 use Rattle.version.proofs.names.is_text.Tie as tie
 
 abbrev invariant-loop : tie.invariant-loop
-invariant-loop s name i₀ i = (i ≤ length s) × (length s ≡ length name) × (same-text (drop i s) (drop i name) ≡ same-text s name)
+invariant-loop s name i₀ i = (i ≤ length s) × (length s ≡ length name) × (same_text (drop i s) (drop i name) ≡ same_text s name)
 
 abbrev decreases-loop : tie.decreases-loop
 decreases-loop s name i₀ i = length s - i
