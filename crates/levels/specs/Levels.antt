@@ -1,7 +1,7 @@
 -- How loud some values are: the sum of their squares, how many of them 16 bits do not hold, the largest of a voice.
 use Rattle.std.specs.Prelude.{ℕ, zero, suc, ◌+◌, ◌*◌, ◌/◌, ◌%◌, ◌^◌, max, Bool, true, false, cond, List, length, ℤ, pos, negsuc, int_lt, nat_le, slice_index_or, unsigned_abs}
 use Rattle.sizes.specs.Sizes.{num_channels, stems_per_frame}
-use Rattle.log.specs.Texts.{peak_of}
+use Rattle.log_lines.specs.Texts.{peak_of}
 use Rattle.levels.specs.declared.SideLevel.{SideLevel}
 
 abbrev pub square_of : ℤ → ℕ

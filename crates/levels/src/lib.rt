@@ -29,7 +29,7 @@ impl SideLevel {
         ensures { result ≡ with_frames self side.now }
     {
         SideLevel {
-            peak: log::peak(self.peak, side),
+            peak: log_lines::peak(self.peak, side),
             squares: sum(false, self.squares, side),
             overs: sum(true, self.overs, side),
         }

@@ -17,11 +17,11 @@ use Rattle.decimal.proofs.Writing.{put-append, put-none}
 use Rattle.frames.specs.declared.Asked.TheVariants as asked
 use Rattle.frames.specs.Listing.{write_register_kind, write_pcm_ram_kind, read_register_kind, peek_register_kind, set_version_kind, asked_of, clocked_as, clocked_by, frames_asked}
 use Rattle.frames.proofs.Counts.{zero-add, frames-more, frames-within, grown}
-use Rattle.log.specs.declared.Line.{Line}
-use Rattle.log.specs.declared.Line.TheVariants.{Write, WriteRam, Read, Peek, Clock, Version, Malformed, Unmapped}
-use Rattle.log.specs.Lines.{parsed_line, bad_number, is_bad}
-use Rattle.log.specs.Texts.{frame_lines, read_back_line}
-use Rattle.log.proofs.Bytes.{FitLine, line-fits}
+use Rattle.log_lines.specs.declared.Line.{Line}
+use Rattle.log_lines.specs.declared.Line.TheVariants.{Write, WriteRam, Read, Peek, Clock, Version, Malformed, Unmapped}
+use Rattle.log_lines.specs.Lines.{parsed_line, bad_number, is_bad}
+use Rattle.log_lines.specs.Texts.{frame_lines, read_back_line}
+use Rattle.log_lines.proofs.Bytes.{FitLine, line-fits}
 use Rattle.log_player.specs.declared.ListedCall.{ListedCall}
 use Rattle.log_player.specs.declared.Next.TheVariants.{Line as Played, Rest, Bad}
 use Rattle.log_player.specs.Worlds.{World}

@@ -34,8 +34,8 @@ use Rattle.s3w2.specs.Registers.{read_register_called, peek_register_answer}
 use Rattle.chip_sound.specs.Sound.{silent_turns, core_frames, framed, framed_ended, clock_called}
 use Rattle.chip_sound.specs.Mixing.{served, mixed_side, mixed_answered, mixed_left, mixed_right, mixed_i32_called}
 use Rattle.chip_lists.specs.Plays.{Playing, shown_by, clock_played, call_played}
-use Rattle.log.specs.declared.Line.TheVariants.{Write, WriteRam, Read, Peek, Clock}
-use Rattle.log.specs.Texts.{frame_lines, read_back_line, peak_of}
+use Rattle.log_lines.specs.declared.Line.TheVariants.{Write, WriteRam, Read, Peek, Clock}
+use Rattle.log_lines.specs.Texts.{frame_lines, read_back_line, peak_of}
 use Rattle.log_player.specs.Worlds.{World, world}
 use Rattle.log_player.specs.Applied.{left_side, right_side, clocked_text, clocked_player, silent, Effect, effect_of}
 use Rattle.log_player.specs.Batches.{line_as, shown_as}

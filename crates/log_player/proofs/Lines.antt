@@ -28,8 +28,8 @@ use Rattle.s3w2.specs.Answers.{is_done, number_of, answered, byte_answered}
 use Rattle.s3w2.specs.Refusals.{accepts_chip, refusal}
 use Rattle.chip_lists.specs.Plays.{Playing, playing, call_played, calls_played, play_refusal, all_played, play_called, play_left}
 use Rattle.s3w2.proofs.Refused.{nothing-amiss}
-use Rattle.log.specs.declared.Line.{Line}
-use Rattle.log.specs.Texts.{peak_of}
+use Rattle.log_lines.specs.declared.Line.{Line}
+use Rattle.log_lines.specs.Texts.{peak_of}
 use Rattle.log_player.specs.Worlds.{World, world}
 use Rattle.log_player.specs.Applied.{left_side, right_side, silent, Effect, effect_of}
 use Rattle.log_player.specs.Runs.{refused_by}

@@ -28,7 +28,7 @@ use Rattle.chip_sound.specs.Mixing.{cleared_to, served, mixed_side, mixed_left, 
 use Rattle.s3w2.proofs.Fits.{FitChip}
 use Rattle.chip_sound.proofs.Runs.{sets-all}
 use Rattle.chip_sound.proofs.Bounds.{PairFrame, pair-side}
-use Rattle.log.specs.Texts.{pair_line, frame_lines, peak_of}
+use Rattle.log_lines.specs.Texts.{pair_line, frame_lines, peak_of}
 use Rattle.log_player.specs.declared.Player.{Player}
 use Rattle.log_player.specs.Applied.{left_side, right_side, clocked_text, clocked_player, silent}
 use Rattle.log_player.proofs.Places.{added-zeros, zeros}

@@ -15,8 +15,8 @@ use Rattle.tone.specs.Pcm.{is_ram_length}
 use Rattle.s3w2.specs.Answers.{is_done}
 use Rattle.s3w2.specs.Refusals.{refusal}
 use Rattle.s3w2.specs.Fresh.{made_refusal, made_ram}
-use Rattle.log.specs.declared.Line.TheVariants.{Malformed}
-use Rattle.log.specs.Lines.{parsed_line, bad_number, is_bad}
+use Rattle.log_lines.specs.declared.Line.TheVariants.{Malformed}
+use Rattle.log_lines.specs.Lines.{parsed_line, bad_number, is_bad}
 use Rattle.log_player.specs.declared.Next.{Next}
 use Rattle.log_player.specs.declared.Next.TheVariants.{Line, Rest, Bad, Refused}
 use Rattle.log_player.specs.Worlds.{World, world, fresh_player, fresh_world}

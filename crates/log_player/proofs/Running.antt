@@ -9,7 +9,7 @@ use lib.ListN.{length, drop, get_or, length-append}
 use lib.Seq.{sets}
 use borrow.Author.Tests.{eq-eqb, ne_eqb}
 use Rattle.decimal.specs.Written.{Put}
-use Rattle.log.specs.Texts.{bad_line}
+use Rattle.log_lines.specs.Texts.{bad_line}
 use Rattle.decimal.proofs.Writing.{put-append, put-none}
 use Rattle.s3w2.specs.Answers.{number_of}
 use Rattle.s3w2.specs.Refusals.{sound_refusal}

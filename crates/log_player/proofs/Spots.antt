@@ -10,8 +10,8 @@ use lib.ListN.{length, drop, length-drop}
 use lib.Seq.{drop-drop}
 use borrow.Author.Tests.{eqb-true, eqb-false}
 use Rattle.num.proofs.Choice.{never}
-use Rattle.log.specs.declared.Line.TheVariants.{Malformed}
-use Rattle.log.specs.Lines.{parsed_line, bad_number, is_bad}
+use Rattle.log_lines.specs.declared.Line.TheVariants.{Malformed}
+use Rattle.log_lines.specs.Lines.{parsed_line, bad_number, is_bad}
 use Rattle.log_player.specs.declared.Next.{Next}
 use Rattle.log_player.specs.declared.Next.TheVariants.{Line, Rest, Bad, Refused}
 use Rattle.log_player.specs.Worlds.{World}

@@ -10,9 +10,9 @@ use lib.ListN.{length, take, drop, get_or, length-drop, drop_of_length-le}
 use lib.Seq.{drop-cons}
 use borrow.Author.Tests.{eq-eqb, ne_eqb, le-leb, lt-leb}
 use Rattle.num.proofs.Choice.{never}
-use Rattle.log.specs.declared.Line.{Line}
-use Rattle.log.specs.declared.Line.TheVariants.{Malformed}
-use Rattle.log.specs.Lines.{parsed_line, bad_number, is_bad}
+use Rattle.log_lines.specs.declared.Line.{Line}
+use Rattle.log_lines.specs.declared.Line.TheVariants.{Malformed}
+use Rattle.log_lines.specs.Lines.{parsed_line, bad_number, is_bad}
 use Rattle.log_player.specs.declared.Next.TheVariants.{Line as Played, Rest, Bad}
 use Rattle.log_player.specs.Steps.{first_line, next_of}
 use Rattle.log_player.specs.Runs.{is_line}

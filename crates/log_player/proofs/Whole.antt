@@ -8,10 +8,10 @@ use lib.Dec.{eqb, leb}
 use lib.ListN.{length, drop, length-append}
 use lib.Seq.{drop-append-le}
 use borrow.Author.Tests.{eqb-true, eqb-false, leb-false, ne_eqb}
-use Rattle.log.specs.declared.Line.TheVariants.{Malformed}
-use Rattle.log.specs.Lines.{parsed_line, bad_number, is_bad}
-use Rattle.log.specs.Texts.{bad_line}
-use Rattle.log.proofs.Long.{long-line}
+use Rattle.log_lines.specs.declared.Line.TheVariants.{Malformed}
+use Rattle.log_lines.specs.Lines.{parsed_line, bad_number, is_bad}
+use Rattle.log_lines.specs.Texts.{bad_line}
+use Rattle.log_lines.proofs.Long.{long-line}
 use Rattle.log_player.specs.declared.Next.TheVariants.{Line as Played, Rest, Bad}
 use Rattle.log_player.specs.Worlds.{World}
 use Rattle.log_player.specs.Applied.{after_line, printed}

@@ -1,9 +1,9 @@
 -- What a line does, and what it prints. Registers are core 0's.
 use Rattle.std.specs.Prelude.{List, [], ℕ, min, ℤ, pos, length, replicate}
 use Rattle.version.specs.Versions.{version_of}
-use Rattle.log.specs.declared.Line.{Line}
-use Rattle.log.specs.declared.Line.TheVariants.{Write, WriteRam, Read, Peek, Clock, Version, Malformed, Unmapped}
-use Rattle.log.specs.Texts.{frame_lines, read_back_line, peak_of}
+use Rattle.log_lines.specs.declared.Line.{Line}
+use Rattle.log_lines.specs.declared.Line.TheVariants.{Write, WriteRam, Read, Peek, Clock, Version, Malformed, Unmapped}
+use Rattle.log_lines.specs.Texts.{frame_lines, read_back_line, peak_of}
 use Rattle.s3w2.specs.declared.Chip.{Chip}
 use Rattle.s3w2.specs.Answers.{byte_answered}
 use Rattle.s3w2.specs.Fresh.{set_version_called}

@@ -6,9 +6,9 @@ use Rattle.decimal.specs.Written.{Put}
 use Rattle.frames.specs.declared.Asked.{Asked}
 use Rattle.frames.specs.declared.Asked.TheVariants as asked
 use Rattle.frames.specs.Listing.{write_register_kind, write_pcm_ram_kind, read_register_kind, peek_register_kind, clock_kind, set_version_kind, asked_of, clocked_by, frames_asked}
-use Rattle.log.specs.declared.Line.{Line}
-use Rattle.log.specs.declared.Line.TheVariants.{Write, WriteRam, Read, Peek, Clock, Version, Malformed, Unmapped}
-use Rattle.log.specs.Texts.{frame_lines, read_back_line}
+use Rattle.log_lines.specs.declared.Line.{Line}
+use Rattle.log_lines.specs.declared.Line.TheVariants.{Write, WriteRam, Read, Peek, Clock, Version, Malformed, Unmapped}
+use Rattle.log_lines.specs.Texts.{frame_lines, read_back_line}
 use Rattle.log_player.specs.declared.ListedCall.{ListedCall}
 use Rattle.log_player.specs.declared.Next.{Next}
 use Rattle.log_player.specs.declared.Player.{Player}

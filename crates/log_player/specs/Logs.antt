@@ -1,8 +1,8 @@
 -- A whole log: what it prints.
 use Rattle.std.specs.Prelude.{cond, List, [], ◌∷◌, ◌++◌, ℕ, suc, eqb, length}
-use Rattle.log.specs.declared.Line.TheVariants.{Malformed}
-use Rattle.log.specs.Lines.{parsed_line, bad_number, is_bad}
-use Rattle.log.specs.Texts.{bad_line, peak_line}
+use Rattle.log_lines.specs.declared.Line.TheVariants.{Malformed}
+use Rattle.log_lines.specs.Lines.{parsed_line, bad_number, is_bad}
+use Rattle.log_lines.specs.Texts.{bad_line, peak_line}
 use Rattle.log_player.specs.declared.Player.{Player}
 use Rattle.log_player.specs.Worlds.{World, fresh_world}
 use Rattle.log_player.specs.Applied.{after_line, printed}

@@ -1,7 +1,7 @@
 -- Some of a log played, line by line: the world that it leaves, the number and the place of the line there, what that is, and the text.
 use Rattle.std.specs.Prelude.{Bool, true, false, cond, List, [], ◌++◌, ℕ, zero, suc, ◌+◌, eqb, leb, length, drop, get_or}
-use Rattle.log.specs.Lines.{parsed_line}
-use Rattle.log.specs.Texts.{bad_line}
+use Rattle.log_lines.specs.Lines.{parsed_line}
+use Rattle.log_lines.specs.Texts.{bad_line}
 use Rattle.s3w2.specs.Answers.{number_of}
 use Rattle.s3w2.specs.Refusals.{sound_refusal}
 use Rattle.log_player.specs.declared.Next.{Next}

@@ -1,7 +1,7 @@
 -- The next line of an input.
 use Rattle.std.specs.Prelude.{cond, List, [], ◌∷◌, ℕ, ◌+◌, eqb, leb, length}
-use Rattle.log.specs.declared.Line.TheVariants.{Malformed}
-use Rattle.log.specs.Lines.{parsed_line, bad_number, is_bad}
+use Rattle.log_lines.specs.declared.Line.TheVariants.{Malformed}
+use Rattle.log_lines.specs.Lines.{parsed_line, bad_number, is_bad}
 use Rattle.log_player.specs.declared.Next.{Next}
 use Rattle.log_player.specs.declared.Next.TheVariants.{Line as Played, Rest, Bad}
 

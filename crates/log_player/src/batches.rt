@@ -12,7 +12,7 @@ use crate::{Batch, Gathered, ListedCall, Played, Player, ROOM};
 use frames::{
     CLOCK, PEEK_REGISTER, READ_REGISTER, SET_VERSION, WRITE_PCM_RAM, WRITE_REGISTER, clocked_by,
 };
-use log::Line;
+use log_lines::Line;
 use sizes::STEMS;
 
 // Lines, and frames, of a batch at most. A line has at most so many frames.
@@ -79,7 +79,7 @@ fn gather(
         if input.len() <= stop {
             return gathered(count, frames, place);
         }
-        let made = listed_call(log::parse(&input[place..stop]));
+        let made = listed_call(log_lines::parse(&input[place..stop]));
         if made.kind == NO_CALL {
             return gathered(count, frames, place);
         }
@@ -126,13 +126,13 @@ fn show_line(
         ≤ 17 + 16 * min (length left.now) (length right.now) }
 {
     if kind == READ_REGISTER {
-        return log::put_read_back(out, at, 82, address, value);
+        return log_lines::put_read_back(out, at, 82, address, value);
     }
     if kind == PEEK_REGISTER {
-        return log::put_read_back(out, at, 80, address, value);
+        return log_lines::put_read_back(out, at, 80, address, value);
     }
     if kind == CLOCK {
-        return log::put_frames(out, at, left, right);
+        return log_lines::put_frames(out, at, left, right);
     }
     num::least(at, out.len())
 }
@@ -233,8 +233,8 @@ impl Player {
         let next = called.chip;
         let player = Player {
             chip: next,
-            left: log::peak(self.left, &*left),
-            right: log::peak(self.right, &*right),
+            left: log_lines::peak(self.left, &*left),
+            right: log_lines::peak(self.right, &*right),
         };
         Played { player, end }
     }

@@ -40,7 +40,7 @@ impl Player {
     fn tell(self, why: u8, from: usize, number: u64, out: &mut [u8], at: usize) -> Ran
         ensures { Stops (Bad why) self from number out.old out.new at result }
     {
-        let end = log::put_bad(out, at, number, why);
+        let end = log_lines::put_bad(out, at, number, why);
         self.ran(Next::Bad(why as u64), from, number, end)
     }
 
@@ -66,9 +66,9 @@ impl Player {
             if stop - from <= 16 {
                 return self.ran(Next::Rest, from, number, at);
             }
-            return self.tell(log::MALFORMED, from, number, out, at);
+            return self.tell(log_lines::MALFORMED, from, number, out, at);
         }
-        let line = log::parse(&input[from..stop]);
+        let line = log_lines::parse(&input[from..stop]);
         self.tell(line.number(), from, number, out, at)
     }
 
@@ -77,8 +77,8 @@ impl Player {
         ensures { Put out.old out.new at (end_text self number rest) result }
     {
         if rest == 0 {
-            return log::put_peak(out, at, self.left, self.right);
+            return log_lines::put_peak(out, at, self.left, self.right);
         }
-        log::put_bad(out, at, number, log::MALFORMED)
+        log_lines::put_bad(out, at, number, log_lines::MALFORMED)
     }
 }

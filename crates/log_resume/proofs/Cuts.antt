@@ -6,9 +6,9 @@ use mathlib.Core.List.{List, [], ◌∷◌, ◌++◌, append_assoc, append-nil}
 use Prim.Native.Nat.{ℕ, suc}
 use lib.Dec.{eqb}
 use Rattle.num.proofs.Choice.{never}
-use Rattle.log.specs.Lines.{parsed_line, bad_number, is_bad}
-use Rattle.log.specs.Texts.{bad_line}
-use Rattle.log.proofs.Bytes.{line-fits}
+use Rattle.log_lines.specs.Lines.{parsed_line, bad_number, is_bad}
+use Rattle.log_lines.specs.Texts.{bad_line}
+use Rattle.log_lines.proofs.Bytes.{line-fits}
 use Rattle.plain_chip.specs.Lists.{Every}
 use Rattle.log_player.specs.Worlds.{World, fresh_world}
 use Rattle.log_player.specs.Applied.{after_line, printed}

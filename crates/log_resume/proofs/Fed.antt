@@ -9,9 +9,9 @@ use lib.IntN.{pos}
 use lib.ListN.{length, get_or, set, replicate, length-set, length-replicate}
 use Rattle.cores.specs.Sizes.{chip_voices, chip_queues}
 use Rattle.num.proofs.Choice.{cond-by}
-use Rattle.log.specs.Lines.{parsed_line, is_bad}
-use Rattle.log.specs.declared.Line.{Line}
-use Rattle.log.specs.declared.Line.TheVariants.{Write, WriteRam, Read, Peek, Clock, Version, Malformed, Unmapped}
+use Rattle.log_lines.specs.Lines.{parsed_line, is_bad}
+use Rattle.log_lines.specs.declared.Line.{Line}
+use Rattle.log_lines.specs.declared.Line.TheVariants.{Write, WriteRam, Read, Peek, Clock, Version, Malformed, Unmapped}
 use Rattle.s3w2.specs.Answers.{is_done}
 use Rattle.s3w2.specs.Refusals.{ram_refusal}
 use Rattle.s3w2.specs.Ram.{write_pcm_ram_ram}

@@ -6,11 +6,11 @@ use Prim.Native.Nat.{ℕ, min}
 use lib.IntN.{ℤ}
 use lib.ListN.{length}
 use Rattle.num.proofs.Choice.{never}
-use Rattle.log.specs.declared.Line.{Line}
-use Rattle.log.specs.declared.Line.TheVariants.{Write, WriteRam, Read, Peek, Clock, Version, Malformed, Unmapped}
-use Rattle.log.specs.Lines.{is_bad}
-use Rattle.log.proofs.Bytes.{FitLine}
-use Rattle.log.specs.Texts.{frame_lines, read_back_line}
+use Rattle.log_lines.specs.declared.Line.{Line}
+use Rattle.log_lines.specs.declared.Line.TheVariants.{Write, WriteRam, Read, Peek, Clock, Version, Malformed, Unmapped}
+use Rattle.log_lines.specs.Lines.{is_bad}
+use Rattle.log_lines.proofs.Bytes.{FitLine}
+use Rattle.log_lines.specs.Texts.{frame_lines, read_back_line}
 use Rattle.version.specs.Versions.{version_of}
 use Rattle.s3w2.specs.declared.Answer.{Answer}
 use Rattle.s3w2.specs.declared.Answer.TheVariants.{Done, Byte, Sample, Count, Flag, Ended, RamLength, QueueBuffer, NotAccepted, StemBuffer}

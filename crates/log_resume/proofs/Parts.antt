@@ -5,7 +5,7 @@ use Prim.Native.Nat.{ℕ, ◌+◌, ◌≤◌, ◌<◌}
 use lib.ListN.{length, get_or}
 use Rattle.s3w2.specs.declared.Answer.{Answer}
 use Rattle.s3w2.specs.Answers.{number_of}
-use Rattle.log.specs.Lines.{parsed_line, is_bad}
+use Rattle.log_lines.specs.Lines.{parsed_line, is_bad}
 use Rattle.log_player.specs.Worlds.{World, fresh_world}
 use Rattle.log_player.specs.Applied.{after_line}
 use Rattle.log_player.specs.Logs.{log_text}

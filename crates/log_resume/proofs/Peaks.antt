@@ -19,9 +19,9 @@ use Rattle.frames.proofs.Parts.{part_length}
 use Rattle.chip_sound.specs.Mixing.{clock_mixed_left, clock_mixed_right}
 use Rattle.s3w2.specs.Chips.{core_at, core_queues}
 use Rattle.s3w2.proofs.Fits.{FitCore, FitChip}
-use Rattle.log.specs.declared.Line.{Line}
-use Rattle.log.specs.declared.Line.TheVariants.{Write, WriteRam, Read, Peek, Clock, Version, Malformed, Unmapped}
-use Rattle.log.specs.Lines.{parsed_line}
+use Rattle.log_lines.specs.declared.Line.{Line}
+use Rattle.log_lines.specs.declared.Line.TheVariants.{Write, WriteRam, Read, Peek, Clock, Version, Malformed, Unmapped}
+use Rattle.log_lines.specs.Lines.{parsed_line}
 use Rattle.plain_chip.specs.Lists.{Every}
 use Rattle.slots.specs.Good.{SlotOk}
 use Rattle.chip_as_slots.specs.Whole.{slot_at}

@@ -1,8 +1,8 @@
 -- A log cut between two of its lines.
 use Rattle.std.specs.Prelude.{◌≡◌, Bool, true, false, cond, List, [], ◌∷◌, ◌++◌, ℕ, suc, eqb, pos, length, replicate}
 use Rattle.cores.specs.Sizes.{chip_queues}
-use Rattle.log.specs.Lines.{parsed_line, bad_number, is_bad}
-use Rattle.log.specs.Texts.{bad_line}
+use Rattle.log_lines.specs.Lines.{parsed_line, bad_number, is_bad}
+use Rattle.log_lines.specs.Texts.{bad_line}
 use Rattle.version.specs.declared.SguVersion.TheVariants.{V3_1}
 use Rattle.s3w2.specs.Fresh.{made_called}
 use Rattle.log_player.specs.Worlds.{World, world, fresh_player, fresh_world}

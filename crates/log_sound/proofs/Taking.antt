@@ -8,8 +8,8 @@ use native.Mathlib.Omega.{arith}
 use lib.Dec.{eqb, leb, ltb}
 use lib.ListN.{length, drop, set, length-drop, length-set}
 use borrow.Author.Tests.{eq-eqb, ne_eqb, le-leb, lt-leb, lt-ltb}
-use Rattle.log.specs.declared.Line.{Line}
-use Rattle.log.specs.Lines.{parsed_line, bad_number, is_bad}
+use Rattle.log_lines.specs.declared.Line.{Line}
+use Rattle.log_lines.specs.Lines.{parsed_line, bad_number, is_bad}
 use Rattle.log_player.specs.declared.Next.{Next}
 use Rattle.log_player.specs.declared.Next.TheVariants.{Line as Whole, Rest, Bad}
 use Rattle.log_player.specs.Steps.{first_line, next_of}

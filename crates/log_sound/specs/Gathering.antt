@@ -1,6 +1,6 @@
 -- The lines of an input taken as calls, one after the other.
 use Rattle.std.specs.Prelude.{Bool, false, cond, List, ℕ, zero, suc, ◌+◌, leb, length, drop, set}
-use Rattle.log.specs.Lines.{parsed_line}
+use Rattle.log_lines.specs.Lines.{parsed_line}
 use Rattle.frames.specs.Listing.{asked_of, clocked_as}
 use Rattle.log_player.specs.declared.ListedCall.{ListedCall}
 use Rattle.log_player.specs.Batches.{listed_call}

@@ -20,9 +20,9 @@ pub fn look(input: &[u8], from: usize) -> Next
         if stop - from <= 16 {
             return Next::Rest;
         }
-        return Next::Bad(log::MALFORMED as u64);
+        return Next::Bad(log_lines::MALFORMED as u64);
     }
-    let line = log::parse(&input[from..stop]);
+    let line = log_lines::parse(&input[from..stop]);
     let why = line.number();
     if why != 0 {
         return Next::Bad(why as u64);
@@ -70,7 +70,7 @@ pub(crate) fn gather(
         if input.len() <= stop {
             return Gathered::of(count, frames, place);
         }
-        let line = log::parse(&input[place..stop]);
+        let line = log_lines::parse(&input[place..stop]);
         if line.number() != 0 {
             return Gathered::of(count, frames, place);
         }

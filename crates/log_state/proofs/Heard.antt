@@ -9,9 +9,9 @@ use lib.ListN.{length, get_or, length-append}
 use Rattle.num.specs.Integers.{clamp16}
 use Rattle.decimal.specs.Written.{render}
 use Rattle.s3w2.specs.declared.Chip.{Chip}
-use Rattle.log.specs.declared.Line.{Line}
-use Rattle.log.specs.declared.Line.TheVariants.{Write, WriteRam, Read, Peek, Clock, Version, Malformed, Unmapped}
-use Rattle.log.specs.Texts.{comma_field, pair_line, frame_line, frame_lines}
+use Rattle.log_lines.specs.declared.Line.{Line}
+use Rattle.log_lines.specs.declared.Line.TheVariants.{Write, WriteRam, Read, Peek, Clock, Version, Malformed, Unmapped}
+use Rattle.log_lines.specs.Texts.{comma_field, pair_line, frame_line, frame_lines}
 use Rattle.log_player.specs.Worlds.{World}
 use Rattle.log_player.specs.Applied.{clocked_text, effect_of, printed}
 use Rattle.log_state.specs.Finding.{sound_line}

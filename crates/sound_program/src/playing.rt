@@ -40,7 +40,7 @@ impl Run {
 // Says that the line which is next is bad, and why.
 fn bad(run: Run, why: u8) -> Run {
     let mut text = [0u8; 64];
-    let end = log::put_bad(&mut text, 0, run.number, why);
+    let end = log_lines::put_bad(&mut text, 0, run.number, why);
     program::say(num::part(&text, 0, end));
     run.stopped(false)
 }
@@ -55,7 +55,7 @@ fn refilled(run: Run, input: &mut [u8]) -> Run {
             if kept == 0 {
                 return run.stopped(true);
             }
-            bad(run, log::MALFORMED)
+            bad(run, log_lines::MALFORMED)
         }
         Input::Failed => {
             complain(b"the input cannot be read\n");

@@ -26,11 +26,11 @@ fn write(bytes: &[u8]) {
 // `bad`, the number of the line behind those that were whole, 17.
 fn write_bad(making: Progress) {
     let mut text = [0u8; 32];
-    let end = log::put_bad(
+    let end = log_lines::put_bad(
         &mut text,
         0,
         std::num::wrapping_add_u64(making.lines, 1),
-        log::MALFORMED,
+        log_lines::MALFORMED,
     );
     write(num::part(&text, 0, end));
 }

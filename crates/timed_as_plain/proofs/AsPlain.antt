@@ -6,8 +6,8 @@ use Prim.Native.Nat.{ℕ, suc, ◌+◌, ◌-◌}
 use native.Mathlib.Omega.{arith}
 use lib.Dec.{eqb, ltb}
 use Rattle.num.proofs.Choice.{cond-by, never}
-use Rattle.log.specs.Lines.{parsed_line, bad_number, is_bad}
-use Rattle.log.specs.Texts.{bad_line}
+use Rattle.log_lines.specs.Lines.{parsed_line, bad_number, is_bad}
+use Rattle.log_lines.specs.Texts.{bad_line}
 use Rattle.log_player.specs.Worlds.{World, fresh_world}
 use Rattle.log_player.specs.Applied.{after_line, printed}
 use Rattle.log_player.specs.Logs.{end_text, rest_text, log_text}

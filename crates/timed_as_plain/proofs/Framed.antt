@@ -7,9 +7,9 @@ use native.Mathlib.Omega.{arith}
 use native.Mathlib.Decide.{dec_le}
 use lib.Dec.{eqb}
 use borrow.Author.Tests.{eq-eqb, ne_eqb, eqb-true, eqb-false}
-use Rattle.log.specs.declared.Line.{Line}
-use Rattle.log.specs.declared.Line.TheVariants.{Clock}
-use Rattle.log.specs.Lines.{parsed_line}
+use Rattle.log_lines.specs.declared.Line.{Line}
+use Rattle.log_lines.specs.declared.Line.TheVariants.{Clock}
+use Rattle.log_lines.specs.Lines.{parsed_line}
 use Rattle.log_player.specs.Worlds.{World, fresh_world}
 use Rattle.log_player.specs.Applied.{after_line, printed}
 use Rattle.plain_chip.specs.Lists.{Every}

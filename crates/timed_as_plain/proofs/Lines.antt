@@ -12,8 +12,8 @@ use Rattle.num.proofs.Choice.{cond-by, never}
 use Rattle.decimal.specs.Written.{digits_in, decimal}
 use Rattle.decimal.specs.declared.TakenNatural.{TakenNatural}
 use Rattle.decimal.proofs.RoundTrip.{natural-back}
-use Rattle.log.specs.declared.Line.TheVariants.{Clock}
-use Rattle.log.specs.Lines.{one_of, one_at, clock_of, parsed_line, is_bad}
+use Rattle.log_lines.specs.declared.Line.TheVariants.{Clock}
+use Rattle.log_lines.specs.Lines.{one_of, one_at, clock_of, parsed_line, is_bad}
 use Rattle.log_player.specs.Steps.{first_line}
 use Rattle.plain_chip.specs.Lists.{Every}
 use Rattle.log_resume.specs.Cuts.{no_end, Playable}

@@ -11,9 +11,9 @@ use Rattle.num.proofs.Choice.{cond-by}
 use Rattle.decimal.specs.Read.{natural_at}
 use Rattle.decimal.specs.declared.TakenNatural.{TakenNatural}
 use Rattle.decimal.specs.declared.TakenNatural.TheVariants.{Natural, NoNatural}
-use Rattle.log.specs.declared.Line.{Line}
-use Rattle.log.specs.declared.Line.TheVariants as plain
-use Rattle.log.specs.Lines.{parsed_line}
+use Rattle.log_lines.specs.declared.Line.{Line}
+use Rattle.log_lines.specs.declared.Line.TheVariants as plain
+use Rattle.log_lines.specs.Lines.{parsed_line}
 use Rattle.timed_log.specs.declared.TimedLine.{TimedLine}
 use Rattle.timed_log.specs.declared.TimedLine.TheVariants.{Due, Malformed, Unmapped, Late, Crowded}
 use Rattle.timed_log.specs.declared.Clockwork.{Clockwork}

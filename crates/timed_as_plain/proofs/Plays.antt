@@ -9,7 +9,7 @@ use lib.ListN.{length, drop, length-append}
 use lib.Seq.{drop-drop, drop-append-add}
 use borrow.Author.Tests.{ne_eqb}
 use Rattle.num.proofs.Choice.{never}
-use Rattle.log.specs.Lines.{parsed_line}
+use Rattle.log_lines.specs.Lines.{parsed_line}
 use Rattle.log_player.specs.declared.Next.{Next}
 use Rattle.log_player.specs.declared.Next.TheVariants.{Line, Rest}
 use Rattle.log_player.specs.Worlds.{World}

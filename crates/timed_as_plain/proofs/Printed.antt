@@ -9,7 +9,7 @@ use lib.ListN.{length}
 use borrow.Author.Tests.{eqb-true, eqb-false, ne_eqb}
 use Rattle.num.proofs.Choice.{cond-by, never}
 use Rattle.decimal.specs.Written.{digits_in, decimal}
-use Rattle.log.specs.Texts.{bad_line, peak_line}
+use Rattle.log_lines.specs.Texts.{bad_line, peak_line}
 use Rattle.log_player.specs.declared.Next.{Next}
 use Rattle.log_player.specs.declared.Next.TheVariants.{Line, Rest, Bad}
 use Rattle.log_player.specs.Worlds.{World, fresh_world}

@@ -15,7 +15,7 @@ use Rattle.decimal.specs.declared.TakenNatural.{TakenNatural}
 use Rattle.decimal.specs.declared.TakenNatural.TheVariants.{Natural, NoNatural}
 use Rattle.decimal.proofs.Writing.{width-below}
 use Rattle.decimal.proofs.RoundTrip.{natural-only-written}
-use Rattle.log.proofs.Long.{long-line}
+use Rattle.log_lines.proofs.Long.{long-line}
 use Rattle.log_player.specs.Steps.{first_line}
 use Rattle.log_player.specs.Worlds.{World}
 use Rattle.log_player.proofs.Stops.{first-taken}

@@ -26,10 +26,10 @@ use Rattle.s3w2.specs.Refusals.{sound_refusal}
 use Rattle.chip_sound.specs.Sound.{silent_turns, core_frames, framed}
 use Rattle.chip_sound.specs.Mixing.{served, mixed_side, mixed_answered, mixed_left, mixed_right, mixed_i32_called}
 use Rattle.chip_sound.proofs.Chunks.{more-core, more-stems}
-use Rattle.log.specs.declared.Line.{Line}
-use Rattle.log.specs.declared.Line.TheVariants.{Clock}
-use Rattle.log.specs.Lines.{is_bad}
-use Rattle.log.specs.Texts.{frame_line, frame_lines, peak_of}
+use Rattle.log_lines.specs.declared.Line.{Line}
+use Rattle.log_lines.specs.declared.Line.TheVariants.{Clock}
+use Rattle.log_lines.specs.Lines.{is_bad}
+use Rattle.log_lines.specs.Texts.{frame_line, frame_lines, peak_of}
 use Rattle.log_player.specs.Worlds.{World, world}
 use Rattle.log_player.specs.Applied.{left_side, right_side, clocked_text, clocked_player, silent, effect_of, after_line, printed}
 use Rattle.chip_calls.proofs.Accepting.{sound_none}

@@ -1,7 +1,7 @@
 -- A timed log: what is due in it, the plain log that it is, and what it prints.
 use Rattle.std.specs.Prelude.{cond, List, [], ◌∷◌, ◌++◌, ℕ, suc, ◌-◌, ◌/◌, ◌%◌, eqb, ltb, length, drop, replicate}
-use Rattle.log.specs.Lines.{parsed_line}
-use Rattle.log.specs.Texts.{bad_line}
+use Rattle.log_lines.specs.Lines.{parsed_line}
+use Rattle.log_lines.specs.Texts.{bad_line}
 use Rattle.log_player.specs.Worlds.{World, fresh_world}
 use Rattle.log_player.specs.Applied.{after_line, printed}
 use Rattle.log_player.specs.Logs.{end_text}

@@ -11,8 +11,8 @@ use lib.Seq.{drop-drop, drop-append-le, take-append-add}
 use borrow.Author.Tests.{eqb-true, eqb-false}
 use Rattle.num.specs.Lists.{part}
 use Rattle.num.proofs.Choice.{cond-by, never}
-use Rattle.log.specs.Lines.{is_bad}
-use Rattle.log.proofs.Long.{long-line}
+use Rattle.log_lines.specs.Lines.{is_bad}
+use Rattle.log_lines.proofs.Long.{long-line}
 use Rattle.log_player.specs.Steps.{first_line}
 use Rattle.log_player.proofs.Stops.{first_short}
 use Rattle.timed_log.specs.declared.TimedLine.{TimedLine}

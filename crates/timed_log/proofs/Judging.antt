@@ -13,10 +13,10 @@ use denote.Enum.Declared.{tag_of}
 use Rattle.decimal.specs.declared.TakenNatural.{TakenNatural}
 use Rattle.decimal.specs.declared.TakenNatural.TheVariants.{Natural, NoNatural}
 use Rattle.decimal.specs.Read.{natural_at}
-use Rattle.log.specs.declared.Line.{Line}
-use Rattle.log.specs.declared.Line.TheVariants as plain
-use Rattle.log.specs.Lines.{parsed_line, is_bad}
-use Rattle.log.proofs.Commas.{comma-inside}
+use Rattle.log_lines.specs.declared.Line.{Line}
+use Rattle.log_lines.specs.declared.Line.TheVariants as plain
+use Rattle.log_lines.specs.Lines.{parsed_line, is_bad}
+use Rattle.log_lines.proofs.Commas.{comma-inside}
 use Rattle.log_player.specs.Steps.{first_line}
 use Rattle.timed_log.specs.contracts.TimedLine.{the_type}
 use Rattle.timed_log.specs.declared.TimedLine.{TimedLine}

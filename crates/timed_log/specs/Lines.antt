@@ -3,10 +3,10 @@ use Rattle.std.specs.Prelude.{cond, List, [], ◌∷◌, ℕ, ◌+◌, eqb, leb,
 use Rattle.decimal.specs.declared.TakenNatural.{TakenNatural}
 use Rattle.decimal.specs.declared.TakenNatural.TheVariants.{Natural, NoNatural}
 use Rattle.decimal.specs.Read.{natural_at}
-use Rattle.log.specs.declared.Line.{Line}
-use Rattle.log.specs.declared.Line.TheVariants as plain
-use Rattle.log.specs.Lines.{parsed_line}
-use Rattle.log.specs.Lines as log
+use Rattle.log_lines.specs.declared.Line.{Line}
+use Rattle.log_lines.specs.declared.Line.TheVariants as plain
+use Rattle.log_lines.specs.Lines.{parsed_line}
+use Rattle.log_lines.specs.Lines as log
 use Rattle.log_player.specs.Steps.{first_line}
 use Rattle.timed_log.specs.declared.TimedLine.{TimedLine}
 use Rattle.timed_log.specs.declared.TimedLine.TheVariants.{Due, Malformed, Unmapped, Late, Crowded}

@@ -4,7 +4,7 @@ ghost use Rattle.timed_log.specs.Lines.{stamped_line, due_of, number_of, judged,
 
 use crate::{Ahead, Clockwork, TimedLine};
 use decimal::TakenNatural;
-use log::Line;
+use log_lines::Line;
 
 // No well-formed line has more bytes: a stamp of ten digits, a comma, and the 16 of a plain line.
 const LONGEST: usize = 27;
@@ -39,7 +39,7 @@ fn due(text: &[u8]) -> TimedLine
     if num::byte_at(text, next) != 44 {
         return TimedLine::Malformed;
     }
-    let line = log::parse(num::tail(text, next + 1));
+    let line = log_lines::parse(num::tail(text, next + 1));
     stamped(value as u32, next + 1, line)
 }
 
@@ -50,8 +50,8 @@ impl TimedLine {
     {
         match self {
             TimedLine::Due { .. } => 0,
-            TimedLine::Malformed => log::MALFORMED,
-            TimedLine::Unmapped => log::UNMAPPED,
+            TimedLine::Malformed => log_lines::MALFORMED,
+            TimedLine::Unmapped => log_lines::UNMAPPED,
             TimedLine::Late => crate::LATE,
             TimedLine::Crowded => crate::CROWDED,
         }
@@ -89,7 +89,7 @@ impl Clockwork {
             if stop - from <= LONGEST {
                 return Ahead::Rest;
             }
-            return Ahead::Bad(log::MALFORMED);
+            return Ahead::Bad(log_lines::MALFORMED);
         }
         let line = self.judged(due(&input[from..stop]));
         let TimedLine::Due { stamp, from: begin } = line else {

@@ -52,7 +52,7 @@ fn put_stop(found: Ahead, place: usize, number: u64, out: &mut [u8]) -> usize
     match found {
         Ahead::Line { .. } => 0,
         Ahead::Rest => 0,
-        Ahead::Bad(why) => log::put_bad(out, 0, number, why),
+        Ahead::Bad(why) => log_lines::put_bad(out, 0, number, why),
     }
 }
 

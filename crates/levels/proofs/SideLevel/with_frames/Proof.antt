@@ -5,7 +5,7 @@ use Rattle.levels.proofs.SideLevel.with_frames.Tie as tie
 use Rattle.levels.proofs.SideLevel.with_frames.Reads as reads
 use Rattle.levels.proofs.SideLevel.with_frames.Lts as lts
 use Rattle.levels.proofs.sum.Reads as sum-reads
-use Rattle.log.proofs.peak.Reads as peak-reads
+use Rattle.log_lines.proofs.peak.Reads as peak-reads
 
 peak-requires : tie.Need-peak-requires
 peak-requires c κs = search rules

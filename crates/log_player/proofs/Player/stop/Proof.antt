@@ -1,7 +1,7 @@
 use borrow.Author.Rules.{rules}
 use mathlib.Core.Path.{ap, ◌∙◌}
 use lib.ListN.{drop}
-use Rattle.log.specs.Lines.{parsed_line}
+use Rattle.log_lines.specs.Lines.{parsed_line}
 use Rattle.log_player.specs.Steps.{next_of}
 use Rattle.log_player.proofs.Stops.{next_past, next-rest, next-long, next-told, line-part, stop-in}
 use Rattle.log_player.proofs.Running.{stops-rest, stops_as}

@@ -3,7 +3,7 @@ use mathlib.Core.Path.{◌≡◌, refl, sym, ap, ◌∙◌}
 use Prim.Native.Nat.{◌+◌, ◌-◌}
 use native.Mathlib.Omega.{arith}
 use lib.ListN.{length, length-set}
-use Rattle.log.specs.Lines.{parsed_line, is_bad}
+use Rattle.log_lines.specs.Lines.{parsed_line, is_bad}
 use Rattle.log_player.specs.declared.ListedCall.{ListedCall}
 use Rattle.log_player.proofs.Stops.{line-part}
 use Rattle.log_player.proofs.Batching.{Gathering, gathering-none, gathering-ends, gathering-next, first-taken, first_fits, open-line, bad-line, bad-call, call-few}

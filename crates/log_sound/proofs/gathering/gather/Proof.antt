@@ -2,7 +2,7 @@ use Rattle.log_sound.proofs.Taking.{good-by, next-bad, not-whole, is-bad, is_who
 use Rattle.log_sound.specs.Gathering.{frames_made, gathering, gathered, list_from}
 use Rattle.log_player.specs.Batches.{listed_call}
 use Rattle.log_player.proofs.Stops.{next-line, line-part}
-use Rattle.log.specs.Lines.{parsed_line}
+use Rattle.log_lines.specs.Lines.{parsed_line}
 use lib.ListN.{length}
 use Prim.Native.Nat.{◌-◌, ◌≤◌, ◌<◌}
 use native.Mathlib.Omega.{arith}

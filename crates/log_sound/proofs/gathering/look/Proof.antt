@@ -1,6 +1,6 @@
 use Rattle.log_player.proofs.Stops.{next_past, next-rest, next-long, next-line, line-part, stop-in}
 use Rattle.log_sound.proofs.Taking.{next-bad, good-by}
-use Rattle.log.specs.Lines.{parsed_line}
+use Rattle.log_lines.specs.Lines.{parsed_line}
 use native.Mathlib.Omega.{arith}
 use mathlib.Core.Path.{sym, ap, ◌∙◌}
 use borrow.Author.Rules.{rules}
@@ -8,8 +8,8 @@ use Rattle.log_sound.proofs.gathering.look.Statement.{statement}
 use Rattle.log_sound.proofs.gathering.look.Tie as tie
 use Rattle.log_sound.proofs.gathering.look.Reads as reads
 use Rattle.log_sound.proofs.gathering.look.Lts as lts
-use Rattle.log.proofs.Line.number.Reads as number-reads
-use Rattle.log.proofs.parse.Reads as parse-reads
+use Rattle.log_lines.proofs.Line.number.Reads as number-reads
+use Rattle.log_lines.proofs.parse.Reads as parse-reads
 use Rattle.log_player.proofs.line_end.Reads as line-end-reads
 
 returns : tie.Need-returns

@@ -1,5 +1,5 @@
 use Rattle.std.proofs.Common.{sym, ◌∙◌, arith, rules, eq-eqb, ne_eqb}
-use Rattle.log.proofs.Commas.{comma-inside}
+use Rattle.log_lines.proofs.Commas.{comma-inside}
 use Rattle.sqv4_make.specs.Lines.{behind_comma}
 use Rattle.sqv4_make.proofs.lines.behind_comma.Statement.{statement}
 use Rattle.sqv4_make.proofs.lines.behind_comma.Tie as tie

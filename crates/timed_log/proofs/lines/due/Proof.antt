@@ -3,8 +3,8 @@ use mathlib.Core.Path.{◌≡◌, sym, ap, ◌∙◌}
 use native.Mathlib.Omega.{arith}
 use borrow.Author.Tests.{eq-eqb, ne_eqb, le-leb, lt-leb}
 use Rattle.decimal.specs.declared.TakenNatural.TheVariants.{Natural}
-use Rattle.log.specs.Lines.{parsed_line}
-use Rattle.log.proofs.Commas.{comma-inside}
+use Rattle.log_lines.specs.Lines.{parsed_line}
+use Rattle.log_lines.proofs.Commas.{comma-inside}
 use Rattle.timed_log.specs.Lines.{stamp_most, stamped_line, due_behind, due_of}
 use Rattle.timed_log.proofs.lines.due.Statement.{statement}
 use Rattle.timed_log.proofs.lines.due.Tie as tie

@@ -1,7 +1,7 @@
 use borrow.Author.Rules.{rules}
 use mathlib.Core.Path.{ap}
 use native.Mathlib.Omega.{arith}
-use Rattle.log.specs.Texts.{bad_line}
+use Rattle.log_lines.specs.Texts.{bad_line}
 use Rattle.log_player.specs.Runs.{stop_text}
 use Rattle.timed_log.specs.declared.Ahead.{Ahead}
 use Rattle.timed_log.specs.Turns.{next_at}
