@@ -1,4 +1,6 @@
 // Decimal text: plain decimal without leading zeros, a minus sign only before a negative number.
+#![tactic(auto)]
+
 ghost use Rattle.std.specs.Prelude.{◌≡◌, [], ◌∷◌, nat_abs, length};
 ghost use Rattle.decimal.specs.Written.{Put, decimal, render};
 ghost use Rattle.decimal.specs.Read.{digit_at, spelled_at, natural_at, number_at, negative, positive};

@@ -23,7 +23,7 @@ fit-channel c g = record {
   frequency = g.1.1.1.1.0.1.1.0.1;
 }
 
-bytes_of : (l : List ℕ) (us : List Val) → shadow (each ℕ u8-field.row.own_val (map (λ v. v) l) us) → EachByte l
+bytes_of : (l : List ℕ) (us : List Val) → shadow (each ℕ u8-field.row.own_val l us) → EachByte l
 bytes_of [] us g i = omega arith
 bytes_of (x ∷ l) [] g i = absurd g
 bytes_of (x ∷ l) (u ∷ us) g zero = g.0.1
@@ -31,7 +31,7 @@ bytes_of (x ∷ l) (u ∷ us) g (suc i) = bytes_of l us g.1 i
 
 module _ (k : Core) {bs : _} (g : shadow (owns (shape core.the_type).fields ((core.the_type).to k) bs)) where
   pub sized : SizedCore k
-  sized = record { channels = simp length-map at g.0.1.0.1; fragments = simp length-map at g.1.0.1.0.1; wavetables = simp length-map at g.1.1.0.1.0.1 }
+  sized = record { channels = g.0.1.0.1; fragments = g.1.0.1.0.1; wavetables = g.1.1.0.1.0.1 }
 
   pub bytes : EachByte k.wavetables
   bytes = bytes_of k.wavetables _ g.1.1.0.1.1

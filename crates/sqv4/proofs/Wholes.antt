@@ -12,6 +12,7 @@ use Rattle.adpcm.specs.declared.Variant.{Variant}
 use Rattle.adpcm.specs.declared.State.{State}
 use Rattle.sqv4.specs.declared.Header.{Header}
 use Rattle.sqv4.specs.Files.{Fills, fragment_at, frame_length}
+use Rattle.adpcm.specs.Codes.{decode_code}
 use Rattle.sqv4.specs.Decoding.{codes_from, sounds, samples_of, state_of, strided, zero_state}
 use Rattle.sqv4.specs.Whole.{samples_from, state_from, state_after, piece, pieces, channel_whole}
 use Rattle.sqv4.proofs.Checks.{total, room}
@@ -26,7 +27,7 @@ length-codes k payload i (suc n) = ap suc (length-codes k payload (suc i) n)
 length-sounds : (v : ℕ) (k : Variant) (volume : ℕ) (s : State) (codes : List ℕ) → length (sounds v k volume s codes) ≡ length codes
 unfolding sounds
 length-sounds v k volume s [] = refl
-length-sounds v k volume s (code ∷ codes) = ap suc (length-sounds v k volume _ codes)
+length-sounds v k volume s (code ∷ codes) = ap suc (length-sounds v k volume (decode_code v k s code) codes)
 
 pub length-samples : (v : ℕ) (k : Variant) (s : State) (b : List ℕ) (n : ℕ) → length (samples_of v k s b n) ≡ n
 unfolding samples_of

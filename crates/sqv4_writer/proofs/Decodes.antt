@@ -11,7 +11,7 @@ use lib.Seq.{sets}
 use Rattle.num.specs.Bytes.{field}
 use Rattle.adpcm.specs.declared.Variant.{Variant}
 use Rattle.adpcm.specs.declared.State.{State}
-use Rattle.adpcm.specs.Codes.{bits_of, code_at}
+use Rattle.adpcm.specs.Codes.{bits_of, code_at, decode_code}
 use Rattle.sqv4.specs.declared.Header.{Header}
 use Rattle.sqv4.specs.Files.{frame_length, fragment_at, inspected}
 use Rattle.sqv4.specs.Decoding.{codes_from, sounds, start_of, samples_of}
@@ -60,7 +60,7 @@ unpacked k volume s xs few =
 heard : (k : Variant) (volume : ℕ) (s : State) (xs : List ℤ) → sounds 3 k volume s (codes_for k volume s xs) ≡ values_for k volume s xs
 unfolding sounds codes_for values_for
 heard k volume s [] = refl
-heard k volume s (x ∷ xs) = ap (λ (l : List ℤ). value_at k volume s (code_for k volume s x) ∷ l) (heard k volume _ xs)
+heard k volume s (x ∷ xs) = ap (λ (l : List ℤ). value_at k volume s (code_for k volume s x) ∷ l) (heard k volume (decode_code 3 k s (code_for k volume s x)) xs)
 
 -- of a fragment, whatever the one before it ended in
 fragment-heard : (k : Variant) (volume index : ℕ) (s : State) (xs : List ℤ) → index ≤ 88 → length xs ≤ fragment_samples → samples_of 3 k s (fragment_for k volume index xs) (length xs) ≡ values_for k volume (start_of index) xs

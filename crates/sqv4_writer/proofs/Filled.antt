@@ -13,7 +13,7 @@ use Rattle.num.proofs.Lists.{each_set}
 use Rattle.adpcm.specs.declared.Variant.{Variant}
 use Rattle.adpcm.specs.declared.Variant.TheVariants.{H, L, LPlus}
 use Rattle.adpcm.specs.declared.State.{State}
-use Rattle.adpcm.specs.Codes.{bits_of, payload_bytes}
+use Rattle.adpcm.specs.Codes.{bits_of, payload_bytes, decode_code}
 use Rattle.sqv4.specs.Decoding.{start_of}
 use Rattle.sqv4_writer.specs.Choice.{last_code, distance_of, code_for, codes_for}
 use Rattle.sqv4_writer.specs.Packing.{codes_number, bytes_of, packed}
@@ -25,7 +25,7 @@ module _ (k : Variant) (volume : ℕ) where
   pub length-codes-for : (s : State) (xs : List ℤ) → length (codes_for k volume s xs) ≡ length xs
   unfolding codes_for
   length-codes-for s [] = refl
-  length-codes-for s (x ∷ xs) = ap suc (length-codes-for _ xs)
+  length-codes-for s (x ∷ xs) = ap suc (length-codes-for (decode_code 3 k s (code_for k volume s x)) xs)
 
   pub code-small : (s : State) (x : ℤ) → code_for k volume s x < 2 ^ bits_of k
   unfolding code_for
@@ -35,7 +35,7 @@ module _ (k : Variant) (volume : ℕ) where
   unfolding codes_for
   codes-small s [] i = pow_pos (bits_of k)
   codes-small s (x ∷ xs) zero = code-small s x
-  codes-small s (x ∷ xs) (suc i) = codes-small _ xs i
+  codes-small s (x ∷ xs) (suc i) = codes-small (decode_code 3 k s (code_for k volume s x)) xs i
 
 -- ---- zeros behind codes are nothing
 zeros : (w m n : ℕ) → codes_number w (drop n (replicate m 0)) ≡ 0

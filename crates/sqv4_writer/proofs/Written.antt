@@ -15,10 +15,10 @@ use Rattle.adpcm.specs.declared.Variant.{Variant}
 use Rattle.adpcm.specs.declared.Variant.TheVariants.{H, L, LPlus}
 use Rattle.adpcm.specs.declared.State.{State}
 use Rattle.adpcm.specs.declared.VariantByte.TheVariants.{Known}
-use Rattle.adpcm.specs.Codes.{variant_of, variant_number, bits_of, payload_bytes, fragment_size}
+use Rattle.adpcm.specs.Codes.{variant_of, variant_number, bits_of, payload_bytes, fragment_size, decode_code}
 use Rattle.sqv4.specs.declared.Header.{Header}
 use Rattle.sqv4.specs.Files.{magic, header_of, fragment_at}
-use Rattle.sqv4_writer.specs.Choice.{codes_for}
+use Rattle.sqv4_writer.specs.Choice.{code_for, codes_for}
 use Rattle.sqv4_writer.specs.Packing.{codes_number, bytes_of, packed}
 use Rattle.sqv4_writer.specs.Streams.{header_size, fragment_samples, fragment_count, max_samples, length_for, samples_at, pieces_of, header_bytes, fragment_for, fragments_for, file_of, header_for}
 use Rattle.sqv4_writer.proofs.Packed.{Codes, le_bytes, number_lt}
@@ -30,7 +30,7 @@ use Rattle.sqv4_writer.proofs.Series.{length-header, length-fragment}
 pub all_codes : (k : Variant) (volume : ℕ) (s : State) (xs : List ℤ) → Codes (bits_of k) (codes_for k volume s xs)
 unfolding codes_for
 all_codes k volume s [] = tt
-all_codes k volume s (x ∷ xs) = (code-small k volume s x, all_codes k volume _ xs)
+all_codes k volume s (x ∷ xs) = (code-small k volume s x, all_codes k volume (decode_code 3 k s (code_for k volume s x)) xs)
 
 module _ (k : Variant) (volume : ℕ) (s : State) (xs : List ℤ) where
   -- no bit past the last

@@ -1,4 +1,6 @@
 // The chip's arithmetic on plain numbers. Nothing here holds state, and every function takes every argument.
+#![tactic(auto)]
+
 mod mix;
 mod noise;
 mod pcm;
