@@ -1,4 +1,5 @@
 // One code of an SQV4 stream: its variants, the decoder's state, packed codes and the volume rules.
+#![tactic(auto)]
 ghost use Rattle.std.specs.Prelude.{◌≡◌, ℕ, ◌+◌, ◌*◌, ◌%◌, ◌^◌, ◌<◌, ◌≤◌, min, ℤ, pos, slice_index, slice_index_or, unsigned_abs};
 ghost use Rattle.num.specs.Bytes.{field};
 ghost use Rattle.adpcm.specs.Ima.{step_sizes, step_size, index_table, difference as ima_difference, index_after};
@@ -6,7 +7,7 @@ ghost use Rattle.adpcm.specs.Codes.{variant_of, bits_of, payload_bytes, fragment
 ghost use Rattle.adpcm.specs.Codes.{level_difference, delta_at, delta_of, adjust_of, update_of, decode_at, decode_code, applied_volume};
 ghost use Rattle.adpcm.specs.Codes.{legacy_volume, overlaid, code_at, variant_number};
 
-#[derive(Drop)]
+#[derive(Clone, Copy)]
 pub enum Variant {
     H,
     L,
@@ -14,13 +15,13 @@ pub enum Variant {
 }
 
 // A variant's byte in a file's header.
-#[derive(Drop)]
+#[derive(Clone, Copy)]
 pub enum VariantByte {
     Known(Variant),
     Unknown,
 }
 
-#[derive(Drop)]
+#[derive(Clone, Copy)]
 pub struct State {
     pub predictor: i16,
     pub index: usize,

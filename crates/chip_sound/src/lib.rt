@@ -8,7 +8,7 @@ pub use mixing::{clock_mixed, clock_mixed_into, clock_mixed_into_i32};
 pub use sound::{clock, generate_sample};
 
 // Which voices of each core are active.
-#[derive(Drop)]
+#[derive(Clone, Copy)]
 pub(crate) struct Flags {
     pub first: [bool; 8],
     pub second: [bool; 8],

@@ -6,14 +6,14 @@ ghost use Rattle.decimal.specs.Written.{Put, decimal, render};
 ghost use Rattle.decimal.specs.Read.{digit_at, spelled_at, natural_at, number_at, negative, positive};
 
 // What reading a numeral without a sign finds: its value and the place behind it.
-#[derive(Drop)]
+#[derive(Clone, Copy)]
 pub enum TakenNatural {
     Natural { value: u64, next: usize },
     NoNatural,
 }
 
 // What reading a numeral finds: its value and the place behind it.
-#[derive(Drop)]
+#[derive(Clone, Copy)]
 pub enum TakenNumber {
     Number { value: i64, next: usize },
     NoNumber,

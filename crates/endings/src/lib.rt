@@ -1,4 +1,6 @@
 // Which of the voices were on and are so no more, as a set: bit n for voice n.
+#![tactic(auto)]
+
 ghost use Rattle.std.specs.Prelude.{◌≡◌, false, ◌*◌, ◌≤◌, get_or};
 ghost use Rattle.sizes.specs.Sizes.{num_channels};
 ghost use Rattle.endings.specs.Sets.{off, bit_of, set_of};

@@ -26,14 +26,14 @@ pub const CLOCK: u8 = 4;
 pub const SET_VERSION: u8 = 5;
 
 // The core after a tick, and its sample.
-#[derive(Drop)]
+#[derive(Clone, Copy)]
 pub struct Turned {
     pub core: Core,
     pub sample: i16,
 }
 
 // The core after a list of calls, its version, and whether they were made.
-#[derive(Drop)]
+#[derive(Clone, Copy)]
 pub struct Played {
     pub core: Core,
     pub version: SguVersion,
@@ -41,7 +41,7 @@ pub struct Played {
 }
 
 // The core after some of them, its version, and the place behind the stems that were given.
-#[derive(Drop)]
+#[derive(Clone, Copy)]
 pub(crate) struct Going {
     pub core: Core,
     pub version: SguVersion,
@@ -49,7 +49,7 @@ pub(crate) struct Going {
 }
 
 // What a call of a list asks for.
-#[derive(Drop)]
+#[derive(Clone, Copy)]
 pub enum Asked {
     WriteRegister,
     WritePcmRam,
@@ -60,7 +60,7 @@ pub enum Asked {
 }
 
 // The voices in turn, from a first one on and round again.
-#[derive(Drop)]
+#[derive(Clone, Copy)]
 struct Round {
     version: SguVersion,
     first: usize,

@@ -5,7 +5,7 @@ ghost use Rattle.levels.specs.Levels.{square_of, over_of, measure_of, sum_with, 
 use sizes::{LAST_CHANNEL, STEMS};
 
 // A side that is not clamped: its largest size, the sum of the squares of its values, and how many of them 16 bits do not hold.
-#[derive(Drop)]
+#[derive(Clone, Copy)]
 pub struct SideLevel {
     pub peak: u32,
     pub squares: u64,

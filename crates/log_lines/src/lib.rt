@@ -1,4 +1,6 @@
 // A log: what a line asks for.
+#![tactic(auto)]
+
 mod parsing;
 mod text;
 
@@ -12,7 +14,7 @@ pub const MALFORMED: u8 = 17;
 pub const UNMAPPED: u8 = 27;
 
 // A line of a log. An address is a register's, or a byte's in RAM; an `Unmapped` line is well formed and names a register that is not there.
-#[derive(Drop)]
+#[derive(Clone, Copy)]
 pub enum Line {
     Write { address: u32, value: u8 },
     WriteRam { address: u32, value: u8 },
@@ -25,14 +27,14 @@ pub enum Line {
 }
 
 // The one numeral from a place to the end of a line.
-#[derive(Drop)]
+#[derive(Clone, Copy)]
 pub(crate) enum One {
     Number(u32),
     NoNumber,
 }
 
 // An address and a byte, parted by a comma, from a place to the end of a line.
-#[derive(Drop)]
+#[derive(Clone, Copy)]
 pub(crate) enum Two {
     Numbers(u32, u8),
     NoNumbers,

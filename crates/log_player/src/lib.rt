@@ -9,7 +9,7 @@ use s3w2::{Answer, Chip};
 pub use steps::line_end;
 
 // A chip, and the largest absolute frame values that it has given, ahead of the clamp.
-#[derive(Drop)]
+#[derive(Clone, Copy)]
 pub struct Player {
     pub chip: Chip,
     pub left: u32,
@@ -17,7 +17,7 @@ pub struct Player {
 }
 
 // A fresh player, and what making its chip answered.
-#[derive(Drop)]
+#[derive(Clone, Copy)]
 pub struct Made {
     pub player: Player,
     pub answer: Answer,
@@ -25,7 +25,7 @@ pub struct Made {
 
 // What an input holds at a place: a line, and the place of the next one; no whole line; a bad line, and the number of
 // why it is one. Or the number with which the chip refuses calls over the RAM and the queue buffer that are lent to it.
-#[derive(Drop)]
+#[derive(Clone, Copy)]
 pub enum Next {
     Line(usize),
     Rest,
@@ -35,7 +35,7 @@ pub enum Next {
 
 // A player after some lines of an input: what it holds behind them, where, the number of the line there, and the place behind
 // what they have printed.
-#[derive(Drop)]
+#[derive(Clone, Copy)]
 pub struct Ran {
     pub player: Player,
     pub next: Next,
@@ -45,7 +45,7 @@ pub struct Ran {
 }
 
 // A line as the call of a list that it makes: its kind is one of crate `frames`' numbers.
-#[derive(Drop)]
+#[derive(Clone, Copy)]
 pub struct ListedCall {
     pub kind: u8,
     pub address: u32,
@@ -53,7 +53,7 @@ pub struct ListedCall {
 }
 
 // So many lines, the frames that they clock, and the place behind them.
-#[derive(Drop)]
+#[derive(Clone, Copy)]
 pub(crate) struct Gathered {
     pub count: usize,
     pub frames: usize,
@@ -61,14 +61,14 @@ pub(crate) struct Gathered {
 }
 
 // A player after some lines, and the place behind what they have printed.
-#[derive(Drop)]
+#[derive(Clone, Copy)]
 pub(crate) struct Played {
     pub player: Player,
     pub end: usize,
 }
 
 // The same, the place behind the lines, and the number of the line there.
-#[derive(Drop)]
+#[derive(Clone, Copy)]
 pub(crate) struct Batch {
     pub player: Player,
     pub from: usize,

@@ -8,7 +8,7 @@ use cores::CHIP_QUEUES;
 
 // A program over a log: whether it reads a state before the log, with voice lines as stored ones or as any, and whether it
 // prints the state in which the log leaves the player, and not the peaks.
-#[derive(Drop)]
+#[derive(Clone, Copy)]
 pub(crate) struct Program {
     pub loads: bool,
     pub stored: bool,
@@ -17,7 +17,7 @@ pub(crate) struct Program {
 
 // Where a run stands: the bytes of the input buffer from `from` to before `filled` are not played yet, and begin with line
 // `number`. `going` says that it goes on, `whole` that the input has come to its end.
-#[derive(Drop)]
+#[derive(Clone, Copy)]
 pub(crate) struct Place {
     pub from: usize,
     pub filled: usize,

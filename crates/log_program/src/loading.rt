@@ -12,7 +12,7 @@ const OLD_LINES: usize = 9;
 
 // A line being looked for: the bytes of the input buffer from `from` to before `filled` follow what was read. `going` says that
 // it is looked for still, `found` that it ends before `to`.
-#[derive(Drop)]
+#[derive(Clone, Copy)]
 struct Sought {
     from: usize,
     to: usize,

@@ -7,7 +7,7 @@ pub use playing::play;
 use s3w2::{Answer, Chip};
 
 // Lines that were taken as calls: how many, how many frames they clock, and the place behind them.
-#[derive(Drop)]
+#[derive(Clone, Copy)]
 pub struct Gathered {
     pub count: usize,
     pub frames: usize,
@@ -16,7 +16,7 @@ pub struct Gathered {
 
 // The chip after some lines: what it answers to them as one list, how many they are, how many frames they clock, and the place
 // behind them.
-#[derive(Drop)]
+#[derive(Clone, Copy)]
 pub struct Sounded {
     pub chip: Chip,
     pub answer: Answer,

@@ -14,7 +14,7 @@ use session::LineAnswer;
 pub const LINES: usize = 1 + CHIP_VOICES;
 
 // A player after a line was read, and what reading it answered.
-#[derive(Drop)]
+#[derive(Clone, Copy)]
 pub struct Taken {
     pub player: Player,
     pub answer: LineAnswer,
@@ -22,7 +22,7 @@ pub struct Taken {
 
 // What an input holds at a place: a line of the state, or one that a player printed before it, and the place behind it; a line
 // that goes on, of which the bytes before a place count.
-#[derive(Drop)]
+#[derive(Clone, Copy)]
 pub enum Found {
     Line(usize),
     Sound(usize),

@@ -9,7 +9,7 @@ mod lines;
 pub use lines::next_line;
 
 // What a read finds: so many bytes stand in the buffer then; the input has ended; it cannot be read.
-#[derive(Drop)]
+#[derive(Clone, Copy)]
 pub enum Input {
     More(usize),
     End,
@@ -18,7 +18,7 @@ pub enum Input {
 
 // A line in a buffer: its bytes are those from `from` to before `to`, where its closing byte 10 stands. The bytes of the buffer
 // before `filled` have been read. Where no line was found the input has ended.
-#[derive(Drop)]
+#[derive(Clone, Copy)]
 pub struct BufferLine {
     pub from: usize,
     pub to: usize,

@@ -1,11 +1,12 @@
 // A voice's registers: waveforms and modulations, what is written and read at an offset, the queue.
+#![tactic(auto)]
 mod bytes;
 mod control;
 mod pcm;
 mod queue;
 mod waveforms;
 
-#[derive(Drop)]
+#[derive(Clone, Copy)]
 pub enum WaveformType {
     Wavetable,
     Pcm,
@@ -15,7 +16,7 @@ pub enum WaveformType {
     FifoDac,
 }
 
-#[derive(Drop)]
+#[derive(Clone, Copy)]
 pub enum ModulationType {
     None,
     Phase,
@@ -27,7 +28,7 @@ pub enum ModulationType {
 }
 
 // The control registers.
-#[derive(Drop)]
+#[derive(Clone, Copy)]
 pub struct Registers {
     pub frequency: u16,
     pub waveform_type: WaveformType,
@@ -41,7 +42,7 @@ pub struct Registers {
 }
 
 // The PCM registers, with sample control and whether the voice is active.
-#[derive(Drop)]
+#[derive(Clone, Copy)]
 pub struct PcmRegisters {
     pub start_addr: u32,
     pub end_addr: u32,
@@ -52,7 +53,7 @@ pub struct PcmRegisters {
 }
 
 // A voice's queue: its entries are the voice's own 2,048 of the queue buffer.
-#[derive(Drop)]
+#[derive(Clone, Copy)]
 pub struct Fifo {
     pub head: usize,
     pub count: usize,

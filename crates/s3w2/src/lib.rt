@@ -9,14 +9,14 @@ pub use refusals::is_done;
 use version::SguVersion;
 use voices::Core;
 
-#[derive(Drop)]
+#[derive(Clone, Copy)]
 pub struct Chip {
     pub version: SguVersion,
     pub cores: [Core; 2],
 }
 
 // What a call answers: what it gives, or why it is turned away.
-#[derive(Drop)]
+#[derive(Clone, Copy)]
 pub enum Answer {
     Done,
     Byte(u8),
@@ -32,7 +32,7 @@ pub enum Answer {
     StemBuffer,
 }
 
-#[derive(Drop)]
+#[derive(Clone, Copy)]
 pub struct Called {
     pub chip: Chip,
     pub answer: Answer,

@@ -5,7 +5,7 @@ ghost use Rattle.notes.specs.Pitches.{sums, sum_at};
 ghost use Rattle.s3w2_notes.specs.Lines.{sum_line, LinePut, LinesPut};
 
 // A note and semitones.
-#[derive(Drop)]
+#[derive(Clone, Copy)]
 struct Pair {
     note: u8,
     semitones: i8,

@@ -16,7 +16,7 @@ pub(crate) use telling::told;
 pub(crate) use writing::{flag_number, one, put_given, put_numbers, sample_bits};
 
 // The numbers of an answer: so many, the first of these.
-#[derive(Drop)]
+#[derive(Clone, Copy)]
 pub(crate) struct Given {
     pub numbers: [u64; 2],
     pub count: usize,

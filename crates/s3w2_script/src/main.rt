@@ -19,7 +19,7 @@ const RAM_ROOM: usize = 1048576;
 const ANSWER_ROOM: usize = 131072;
 
 // The lengths of RAM and queue buffer that are lent to the chip, and the core that lines name.
-#[derive(Drop)]
+#[derive(Clone, Copy)]
 struct Lent {
     ram: usize,
     queues: usize,
@@ -27,7 +27,7 @@ struct Lent {
 }
 
 // A chip, what is lent to it, and the place behind the answers that are not written yet.
-#[derive(Drop)]
+#[derive(Clone, Copy)]
 struct Player {
     chip: Chip,
     lent: Lent,

@@ -11,7 +11,7 @@ const SIDE: usize = 1024;
 const AT_ONCE: usize = 1000;
 
 // How many values the left side, or stems, and the right side have.
-#[derive(Drop)]
+#[derive(Clone, Copy)]
 struct Lengths {
     left: usize,
     right: usize,

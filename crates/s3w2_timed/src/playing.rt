@@ -5,7 +5,7 @@ use timed_log::{Finished, Timed, TimedRan};
 
 // Where a run stands: the bytes of the input buffer from `from` to before `filled` are not written out yet, and begin with line
 // `number`. `going` says that it goes on, `whole` that the input has come to its end.
-#[derive(Drop)]
+#[derive(Clone, Copy)]
 struct Place {
     from: usize,
     filled: usize,

@@ -12,7 +12,7 @@ pub use writing::write_voice;
 
 // What a call answers: that it is done, the length of the line that it wrote, or why it is turned away. A field is counted
 // from 1.
-#[derive(Drop)]
+#[derive(Clone, Copy)]
 pub enum LineAnswer {
     Done,
     Written(usize),
@@ -25,7 +25,7 @@ pub enum LineAnswer {
     Queued,
 }
 
-#[derive(Drop)]
+#[derive(Clone, Copy)]
 pub struct LineCalled {
     pub chip: Chip,
     pub answer: LineAnswer,

@@ -11,7 +11,7 @@ pub use writing::write_voice;
 
 // What a voice line is: that of a voice, or malformed at a field, counted from 1, or that of a voice with something in its
 // queue on a chip without a FIFO.
-#[derive(Drop)]
+#[derive(Clone, Copy)]
 pub enum VoiceLine {
     Voice(usize),
     Malformed(usize),
@@ -19,7 +19,7 @@ pub enum VoiceLine {
 }
 
 // What a head is: a version, or a version and the length of the RAM, or malformed at a field.
-#[derive(Drop)]
+#[derive(Clone, Copy)]
 pub enum HeadLine {
     Version(SguVersion),
     Sized { version: SguVersion, size: usize },

@@ -3,7 +3,7 @@ use crate::playing::settled;
 use crate::{FRAMES, Run};
 
 // What is known of a log ahead: its frames, more than any file has where they are not known, or that it is not whole.
-#[derive(Drop)]
+#[derive(Clone, Copy)]
 pub(crate) enum Known {
     Frames(u64),
     NotWhole,

@@ -29,7 +29,7 @@ pub(crate) fn say_count(word: &[u8], count: u64) {
 }
 
 // The files of a sound: how many, the channels of each, and the descriptor of the first; that of each other is one more.
-#[derive(Drop)]
+#[derive(Clone, Copy)]
 struct Files {
     count: usize,
     channels: u16,

@@ -15,7 +15,7 @@ use sizes::STEMS;
 const FRAMES: usize = 1000;
 
 // What becomes of the frames: they are written as one WAV file of the mix or of all stems, or as one for each voice, or measured.
-#[derive(Drop)]
+#[derive(Clone, Copy)]
 pub(crate) enum Sound {
     Mix,
     Stems,
@@ -24,7 +24,7 @@ pub(crate) enum Sound {
 }
 
 // The levels of the frames behind the last tenth of a second.
-#[derive(Drop)]
+#[derive(Clone, Copy)]
 pub(crate) struct Level {
     pub frames: usize,
     pub left: SideLevel,
@@ -34,7 +34,7 @@ pub(crate) struct Level {
 
 // A log being played: the bytes of the input buffer from `from` to before `filled` are not played yet, and begin with line `number`;
 // `frames` were played. `going` says that it goes on, `whole` that it has come to its end.
-#[derive(Drop)]
+#[derive(Clone, Copy)]
 pub(crate) struct Run {
     pub level: Level,
     pub from: usize,

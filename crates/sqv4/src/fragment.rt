@@ -7,7 +7,7 @@ ghost use Rattle.sqv4.specs.Decoding.{fragment_into, state_behind, legacy_versio
 use adpcm::{State, Variant};
 
 // Where samples go: `count` of them, at every `step`-th place from `at` on.
-#[derive(Drop)]
+#[derive(Clone, Copy)]
 pub(crate) struct Places {
     pub at: usize,
     pub step: usize,

@@ -9,7 +9,7 @@ pub use fragment::{decode_fragment, decode_legacy_fragment};
 pub use whole::decode;
 
 // What a file's header says of it.
-#[derive(Drop)]
+#[derive(Clone, Copy)]
 pub struct Header {
     pub version: u8,
     pub variant: Variant,
@@ -24,7 +24,7 @@ pub struct Header {
 }
 
 // The check's answer: the header, or the first thing that is wrong.
-#[derive(Drop)]
+#[derive(Clone, Copy)]
 pub enum Inspected {
     Accepted(Header),
     TruncatedHeader,
@@ -40,7 +40,7 @@ pub enum Inspected {
 }
 
 // What is wrong with a fragment.
-#[derive(Drop)]
+#[derive(Clone, Copy)]
 pub enum Fault {
     Fine,
     Step(u8),

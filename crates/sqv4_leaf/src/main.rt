@@ -8,7 +8,7 @@ ghost use Rattle.std.specs.Prelude.{◌≤◌};
 use adpcm::{State, Variant, VariantByte};
 
 // What a call gives: a code and 0, or a state's predictor and index.
-#[derive(Drop)]
+#[derive(Clone, Copy)]
 struct Given {
     pub first: u64,
     pub second: u64,

@@ -11,7 +11,7 @@ mod moving;
 use adpcm::Variant;
 
 // What the first line says.
-#[derive(Drop)]
+#[derive(Clone, Copy)]
 pub(crate) struct Terms {
     pub variant: Variant,
     pub rate: u32,
@@ -20,21 +20,21 @@ pub(crate) struct Terms {
 }
 
 // A numeral within a line: its value and the place behind it.
-#[derive(Drop)]
+#[derive(Clone, Copy)]
 pub(crate) enum Field {
     Number { value: u32, next: usize },
     NoNumber,
 }
 
 // The first line, taken apart.
-#[derive(Drop)]
+#[derive(Clone, Copy)]
 pub(crate) enum FirstLine {
     Says(Terms),
     NoTerms,
 }
 
 // The line of a sample, taken apart.
-#[derive(Drop)]
+#[derive(Clone, Copy)]
 pub(crate) enum SampleLine {
     Value(i16),
     NoSample,
@@ -42,7 +42,7 @@ pub(crate) enum SampleLine {
 
 // The input as far as it was read: the bytes of the line that is not ended yet, the whole lines before it, what the first of them
 // says, and whether all were such lines.
-#[derive(Drop)]
+#[derive(Clone, Copy)]
 pub(crate) struct Progress {
     pub line: [u8; 20],
     pub filled: usize,

@@ -6,7 +6,7 @@ use crate::Progress;
 use crate::making::{begun, feed, is_whole, make};
 use sqv4_writer::StreamAnswer;
 
-#[derive(Drop)]
+#[derive(Clone, Copy)]
 enum Got {
     Bytes(usize),
     Failed,

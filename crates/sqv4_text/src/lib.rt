@@ -15,7 +15,7 @@ const LONGEST_READ: usize = 16777216;
 const EVERYTHING: usize = 0xffff_ffff_ffff_ffff;
 
 // What stands next in a batch: a file of so many bytes, nothing, fewer bytes than a length or a file has, or a file that is too long.
-#[derive(Drop)]
+#[derive(Clone, Copy)]
 enum Batched {
     File(usize),
     End,
@@ -24,14 +24,14 @@ enum Batched {
 }
 
 // Where the text ends after a file, and whether more may follow.
-#[derive(Drop)]
+#[derive(Clone, Copy)]
 struct Next {
     at: usize,
     going: bool,
 }
 
 // The numbers of a line: the first `count` of `values`.
-#[derive(Drop)]
+#[derive(Clone, Copy)]
 struct Values {
     pub count: usize,
     pub values: [u64; 5],

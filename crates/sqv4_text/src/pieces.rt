@@ -4,7 +4,7 @@ use sqv4::{Header, Inspected};
 
 // Where the printing stands: the next fragment begins at `from`, `rest` samples of a channel are not printed yet, the fragments
 // before left the two channels in these states, and the text ends at `end`.
-#[derive(Drop)]
+#[derive(Clone, Copy)]
 pub(crate) struct Place {
     pub from: usize,
     pub rest: usize,

@@ -12,7 +12,7 @@ const FRAGMENTS: usize = 900;
 
 // Where a walk over the windows stands: `rest` samples of a channel are in the windows that follow; what the last one was found to be;
 // where the printing stands.
-#[derive(Drop)]
+#[derive(Clone, Copy)]
 struct Walk {
     rest: usize,
     found: Inspected,
@@ -181,7 +181,7 @@ fn asked(window: &[u8]) -> usize {
 
 // A file's header: what it is found to be, its samples and the file's length left aside; how many samples of a channel it says; the
 // length that it asks for.
-#[derive(Drop)]
+#[derive(Clone, Copy)]
 struct FileHead {
     found: Inspected,
     samples: usize,

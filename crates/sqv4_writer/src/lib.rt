@@ -7,7 +7,7 @@ mod streams;
 pub use streams::{answer_for, write_stream};
 
 // What writing a stream answers: the file's length, or why there is no file.
-#[derive(Drop)]
+#[derive(Clone, Copy)]
 pub enum StreamAnswer {
     Written(usize),
     // A rate or a volume of zero, a step index above 88, or too many samples.

@@ -10,21 +10,21 @@ pub use cache::clear;
 pub use file::initialize_sqv4;
 
 // The variant that a cache holds.
-#[derive(Drop)]
+#[derive(Clone, Copy)]
 pub enum Held {
     Nothing,
     Is(Variant),
 }
 
 // The fragment that a half of the cache holds.
-#[derive(Drop)]
+#[derive(Clone, Copy)]
 pub enum Cached {
     Nothing,
     Frame(usize),
 }
 
 // What a voice knows of its file once it is taken.
-#[derive(Drop)]
+#[derive(Clone, Copy)]
 pub struct Info {
     pub version: u8,
     pub sample_count: usize,
@@ -35,7 +35,7 @@ pub struct Info {
 
 // Everything of a cache but the decoded samples. Those are lent, 128 of them: an even fragment's from 0 on, an odd one's
 // from 64 on.
-#[derive(Drop)]
+#[derive(Clone, Copy)]
 pub struct StreamCache {
     pub valid: bool,
     pub variant: Held,
@@ -47,14 +47,14 @@ pub struct StreamCache {
 }
 
 // What a voice finds in the RAM.
-#[derive(Drop)]
+#[derive(Clone, Copy)]
 pub enum Opened {
     NoFile,
     File(Variant, Info),
 }
 
 // What the registers mean to a stream's ticks.
-#[derive(Drop)]
+#[derive(Clone, Copy)]
 pub struct Play {
     pub start: usize,
     pub end: usize,
@@ -66,7 +66,7 @@ pub struct Play {
 }
 
 // A voice's parts that a stream's tick moves, with the value in Q8.8 ahead of the volume.
-#[derive(Drop)]
+#[derive(Clone, Copy)]
 pub struct Streamed {
     pub cache: StreamCache,
     pub phase: u64,
@@ -75,7 +75,7 @@ pub struct Streamed {
 }
 
 // What a tick asks for: nothing, or a sample, with the phase that it is at.
-#[derive(Drop)]
+#[derive(Clone, Copy)]
 pub enum Plan {
     Stop,
     Sample(usize, u64),
@@ -83,7 +83,7 @@ pub enum Plan {
 
 // What a cache serves from a sample on: that sample's fragment, whose samples are `per` from `first` on, and the next one. Of
 // the first `reach` samples the one after it is there too. `here` and `next` place them among the voice's 128.
-#[derive(Drop)]
+#[derive(Clone, Copy)]
 pub struct Window {
     pub first: usize,
     pub per: usize,

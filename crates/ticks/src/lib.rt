@@ -9,7 +9,7 @@ mod wavetable;
 
 use registers::Fifo;
 
-#[derive(Drop)]
+#[derive(Clone, Copy)]
 pub struct Oscillator {
     pub phase: u64,
     pub old_phase: u64,
@@ -19,7 +19,7 @@ pub struct Oscillator {
 }
 
 // What a tick looks at of the voice that modulates it.
-#[derive(Drop)]
+#[derive(Clone, Copy)]
 pub struct Target {
     pub last_sample: i16,
     pub phase: u64,
@@ -27,7 +27,7 @@ pub struct Target {
 }
 
 // What the registers mean to a voice's ticks.
-#[derive(Drop)]
+#[derive(Clone, Copy)]
 pub struct Setting {
     pub volume: u8,
     pub panpot: u8,
@@ -40,14 +40,14 @@ pub struct Setting {
 }
 
 // A tick of an oscillator, with the value in Q8.8 ahead of the volume.
-#[derive(Drop)]
+#[derive(Clone, Copy)]
 pub struct Ticked {
     pub oscillator: Oscillator,
     pub q8: i16,
 }
 
 // What ticks have given to the two sides so far, and the last one's sample.
-#[derive(Drop)]
+#[derive(Clone, Copy)]
 pub struct Sides {
     pub sample: i16,
     pub left: i32,
@@ -55,14 +55,14 @@ pub struct Sides {
 }
 
 // What the ticks of an oscillator move.
-#[derive(Drop)]
+#[derive(Clone, Copy)]
 pub struct Sound {
     pub oscillator: Oscillator,
     pub sides: Sides,
 }
 
 // What the ticks of a queue move.
-#[derive(Drop)]
+#[derive(Clone, Copy)]
 pub struct QueueSound {
     pub fifo: Fifo,
     pub sides: Sides,

@@ -18,7 +18,7 @@ pub const FRAME_LINES: u32 = 64;
 
 // A line of a timed log. What is due begins at a place behind the stamp; a `Late` line has a stamp below the one before it, a `Crowded` one
 // is one too many at its frame.
-#[derive(Drop)]
+#[derive(Clone, Copy)]
 pub enum TimedLine {
     Due { stamp: u32, from: usize },
     Malformed,
@@ -28,7 +28,7 @@ pub enum TimedLine {
 }
 
 // The frames that a log has written out, and how many lines stand behind them.
-#[derive(Drop)]
+#[derive(Clone, Copy)]
 pub struct Clockwork {
     pub frames: u32,
     pub lines: u32,
@@ -36,7 +36,7 @@ pub struct Clockwork {
 
 // What an input holds at a place: a line, its stamp, where the plain line in it begins and the place behind it; no whole line; a bad
 // line, and the number of why it is one.
-#[derive(Drop)]
+#[derive(Clone, Copy)]
 pub enum Ahead {
     Line { stamp: u32, from: usize, to: usize },
     Rest,
@@ -44,7 +44,7 @@ pub enum Ahead {
 }
 
 // Some lines of an input written out: the clockwork then, the place behind them, the number of the line there, and the place behind the text.
-#[derive(Drop)]
+#[derive(Clone, Copy)]
 pub struct Unrolled {
     pub clock: Clockwork,
     pub from: usize,
@@ -53,7 +53,7 @@ pub struct Unrolled {
 }
 
 // A player, and a log's clockwork: of the text that was written out, the part from `from` to before `end` is not played yet.
-#[derive(Drop)]
+#[derive(Clone, Copy)]
 pub struct Timed {
     pub player: Player,
     pub clock: Clockwork,
@@ -62,14 +62,14 @@ pub struct Timed {
 }
 
 // A fresh one, and what making its chip answered.
-#[derive(Drop)]
+#[derive(Clone, Copy)]
 pub struct MadeTimed {
     pub timed: Timed,
     pub answer: Answer,
 }
 
 // A player and its clockwork after a turn: what the input holds then, where, the number of the line there, and the place behind what was printed.
-#[derive(Drop)]
+#[derive(Clone, Copy)]
 pub struct TimedRan {
     pub timed: Timed,
     pub next: Next,
@@ -79,7 +79,7 @@ pub struct TimedRan {
 }
 
 // The end of a log: `Next::Rest` where all is played, and the place behind what was printed.
-#[derive(Drop)]
+#[derive(Clone, Copy)]
 pub struct Finished {
     pub next: Next,
     pub end: usize,

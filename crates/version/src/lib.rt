@@ -1,9 +1,11 @@
 // The chip's versions and their names.
+#![tactic(auto)]
+
 mod features;
 mod names;
 mod spaces;
 
-#[derive(Drop)]
+#[derive(Clone, Copy)]
 pub enum SguVersion {
     V1,
     V2,
@@ -13,7 +15,7 @@ pub enum SguVersion {
 }
 
 // What a text names.
-#[derive(Drop)]
+#[derive(Clone, Copy)]
 pub enum Parsed {
     Version(SguVersion),
     Unknown,

@@ -13,7 +13,7 @@ use stream::{StreamCache, Streamed};
 use ticks::{Oscillator, Sides};
 
 // What moves in a voice's ticks.
-#[derive(Drop)]
+#[derive(Clone, Copy)]
 pub enum Kind {
     Silent,
     Oscillator,
@@ -22,7 +22,7 @@ pub enum Kind {
 }
 
 // The parts of 8-byte alignment come first: with the registers first a frame of FIFO voices takes three times as long.
-#[derive(Drop)]
+#[derive(Clone, Copy)]
 pub struct Channel {
     pub oscillator: Oscillator,
     pub fifo: Fifo,
@@ -32,14 +32,14 @@ pub struct Channel {
 }
 
 // What a stream's ticks move.
-#[derive(Drop)]
+#[derive(Clone, Copy)]
 pub struct StreamSound {
     pub voice: Streamed,
     pub sides: Sides,
 }
 
 // Ticks that the cache serves: they move the phase alone.
-#[derive(Drop)]
+#[derive(Clone, Copy)]
 pub struct Served {
     pub ticks: usize,
     pub phase: u64,
@@ -48,7 +48,7 @@ pub struct Served {
 }
 
 // A channel after one tick, and what the tick gave to the two sides.
-#[derive(Drop)]
+#[derive(Clone, Copy)]
 pub struct ChannelTick {
     pub channel: Channel,
     pub sides: Sides,

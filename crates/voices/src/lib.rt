@@ -18,7 +18,7 @@ use voice::Channel;
 
 // A voice's decoded fragments are the 128 samples from 128 times the channel on, its wavetable the 256 bytes from 256 times
 // the channel on.
-#[derive(Drop)]
+#[derive(Clone, Copy)]
 pub struct Core {
     pub channels: [Channel; 8],
     pub fragments: [i16; 1024],

@@ -57,7 +57,7 @@ fn fifo_of(line: &[u64]) -> Fifo {
 
 // Where a voice's queue lies in the queue buffer: the entries from `from` to before `to` are the oldest, those from `again` to
 // before `end` follow them.
-#[derive(Drop)]
+#[derive(Clone, Copy)]
 pub(crate) struct Ring {
     pub from: usize,
     pub to: usize,

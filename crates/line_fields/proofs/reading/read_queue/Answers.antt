@@ -1,0 +1,25 @@
+use mathlib.Core.Path.{sym, ◌∙◌}
+use native.Mathlib.Omega.{arith}
+use Rattle.line_fields.proofs.Taking.{queue-taken, queue-stored, queue-refused}
+use Rattle.line_fields.proofs.Bounds.{count-range}
+use Rattle.line_fields.proofs.reading.read_queue.Goals as goal
+
+pub overflow_add-to : goal.overflow_add-to
+overflow_add-to c = omega (arith, (count-range _ _ _ _ _ (sym c.part_at-part.ensures.result ∙ c.part-1.given.1)))
+
+pub take_parts-samples-requires : goal.take_parts-samples-requires
+take_parts-samples-requires c = omega (arith, (count-range _ _ _ _ _ (sym c.part_at-part.ensures.result ∙ c.part-1.given.1)))
+
+pub close-requires : goal.close-requires
+close-requires c = omega (arith, (count-range _ _ _ _ _ (sym c.part_at-part.ensures.result ∙ c.part-1.given.1)))
+
+pub returns-in-At-clause-result : goal.returns-in-At-clause-result
+returns-in-At-clause-result c =
+    let p = c.before.before.before.before.before.before.before.before.before.before in (c.close.ensures ∙ queue-taken _ _ _ _ _ _ (sym p.part_at-part.ensures.result ∙ p.part-1.given.1) c.take_parts-samples.ensures.result)
+
+pub returns-in-At-clause-numbers : goal.returns-in-At-clause-numbers
+returns-in-At-clause-numbers c =
+    let p = c.before.before.before.before.before.before.before.before.before.before in (queue-stored _ _ _ _ _ _ _ _ (sym p.part_at-part.ensures.result ∙ p.part-1.given.1) c.put_number.ensures c.take_parts-samples.ensures.numbers)
+
+pub returns-in-Malformed : goal.returns-in-Malformed
+returns-in-Malformed c = queue-refused _ _ _ _ _ (sym c.part_at-part.ensures.result ∙ c.part-in-Malformed-1.given.1)

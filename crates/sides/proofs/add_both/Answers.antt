@@ -1,0 +1,20 @@
+use borrow.Author.Rules.{sfits_of}
+use mathlib.Core.Path.{sym, ◌∙◌}
+use Prim.Native.Nat.{◌+◌, ◌-◌}
+use native.Mathlib.Omega.{arith}
+use lib.IntN.{pos}
+use lib.ListN.{get_or, length-set}
+use mir.Syntax.{w16}
+use mir.Val.{to_z, of_z}
+use Rattle.sides.specs.Sides.{saturating}
+use Rattle.sides.proofs.Frames.{side-both}
+use Rattle.sides.proofs.Added.{added_next, saturating-is}
+use Rattle.sides.proofs.add_both.Goals as goal
+
+pub loop-i-preserved : goal.loop-i-preserved
+loop-i-preserved c =
+    let l = c.loop-i in
+    let a = c.args in
+    let s = c.both_of in
+    let y = saturating-is (get_or l.side (a.first + l.i) (pos 0)) s.result c.saturate_output-both.result c.saturating_add.result (sfits_of c.saturating_add-arg-1.given) (sfits_of s.type_inv) (sfits_of c.saturate_output-both.type_inv) (sfits_of c.saturating_add.type_inv) c.saturate_output-both.ensures c.saturating_add.ensures in
+    (omega arith, added_next saturating a.stems.now a.others.now a.hand a.first a.side.now l.i l.side s.result (to_z w16 (of_z w16 c.saturating_add.result)) l.invariant.1 (s.ensures ∙ sym (side-both a.stems.now a.others.now a.hand l.i (omega arith))) y, simp length-set l.invariant.2, l.invariant.3, l.invariant.4)

@@ -1,0 +1,14 @@
+use mathlib.Core.Path.{sym, ◌∙◌}
+use Prim.Native.Nat.{◌-◌}
+use native.Mathlib.Omega.{arith}
+use Rattle.version.proofs.Texts.{v_next, v-stop, v-end}
+use Rattle.version.proofs.names.v_count.Goals as goal
+
+pub returns-then-not-is_v : goal.returns-then-not-is_v
+returns-then-not-is_v c = sym (v-stop c.args.s.now c.loop-at.at (omega arith) (sym c.is_v.ensures ∙ c.if-not-is_v.true)) ∙ c.loop-at.invariant.1
+
+pub loop-at-preserved : goal.loop-at-preserved
+loop-at-preserved c = (omega arith, sym (v_next c.args.s.now c.loop-at.at (omega arith) (sym c.is_v.ensures ∙ c.if-not-is_v.false)) ∙ c.loop-at.invariant.1)
+
+pub returns : goal.returns
+returns c = sym (v-end c.args.s.now c.loop-at.at (omega arith)) ∙ c.loop-at.invariant.1
