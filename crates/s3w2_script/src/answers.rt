@@ -26,7 +26,7 @@ fn given(answer: Answer) -> Given {
 // What a line tells of no chip, or what its call gives.
 fn answered(answer: Answer, line: &[u64], ram: &[u8]) -> Given {
     match fields::letter(line) {
-        b'a' | b'o' | b'u' | b'u' | b'k' => fields::told(line, ram),
+        b'A' | b'O' | b'U' | b'u' | b'K' => fields::told(line, ram),
         _ => given(answer),
     }
 }

@@ -9,7 +9,7 @@ fn asked(chip: Chip, core: usize, line: &[u64], ram: &[u8]) -> Answer {
     let a = fields::word(line, 1);
     let x = fields::byte(line, 2);
     match fields::letter(line) {
-        b'p' => chip.peek_register(core, a),
+        b'P' => chip.peek_register(core, a),
         b't' => chip.read_channel_wavetable(core, ch, x),
         b'q' => chip.read_channel_pcm_reg(core, ch, x),
         b'w' => chip.wavetable_length(core, ch),
@@ -25,12 +25,12 @@ fn called_alone(chip: Chip, core: usize, line: &[u64], ram: &[u8]) -> Called {
     let x = fields::byte(line, 2);
     let y = fields::byte(line, 3);
     match fields::letter(line) {
-        b'v' => chip.set_version(fields::version(line)),
+        b'V' => chip.set_version(fields::version(line)),
         b'z' => chip.reset_channel(core, ch),
-        b'r' => chip.read_register(core, fields::word(line, 1)),
-        b't' => chip.write_channel_wavetable(core, ch, x, y),
+        b'R' => chip.read_register(core, fields::word(line, 1)),
+        b'T' => chip.write_channel_wavetable(core, ch, x, y),
         b'c' => chip.read_channel_control(core, ch, x),
-        b'q' => chip.write_channel_pcm_reg(core, ch, x, y),
+        b'Q' => chip.write_channel_pcm_reg(core, ch, x, y),
         _ => {
             let answer = asked(chip, core, line, ram);
             Called { chip, answer }
@@ -56,8 +56,8 @@ fn write_bytes(chip: Chip, line: &[u64], ram: &mut [u8]) -> Called {
 // The calls that write to the RAM.
 fn called_with_ram(chip: Chip, line: &[u64], ram: &mut [u8]) -> Called {
     match fields::letter(line) {
-        b'n' => Chip::with_version(ram, fields::version(line)),
-        b'z' => chip.reset(ram),
+        b'N' => Chip::with_version(ram, fields::version(line)),
+        b'Z' => chip.reset(ram),
         _ => write_bytes(chip, line, ram),
     }
 }
@@ -85,10 +85,10 @@ fn called_with_queues(
     let ch = fields::size(line, 1);
     let x = fields::byte(line, 2);
     match fields::letter(line) {
-        b'w' => chip.write_register(queues, core, fields::word(line, 1), x),
-        b'c' => chip.write_channel_control(queues, core, ch, x, fields::byte(line, 3)),
-        b'g' => chip_sound::generate_sample(chip, ram, queues, core, ch),
-        b'e' | b'f' => set(chip, core, line, queues),
+        b'W' => chip.write_register(queues, core, fields::word(line, 1), x),
+        b'C' => chip.write_channel_control(queues, core, ch, x, fields::byte(line, 3)),
+        b'G' => chip_sound::generate_sample(chip, ram, queues, core, ch),
+        b'E' | b'F' => set(chip, core, line, queues),
         _ => called_alone(chip, core, line, ram),
     }
 }
@@ -105,8 +105,8 @@ pub(crate) fn called(
     let n = num::least(lent.ram, ram.len());
     let q = num::least(lent.queues, queues.len());
     match fields::letter(line) {
-        b'n' | b'z' | b'm' | b'b' => called_with_ram(chip, line, &mut ram[..n]),
-        b's' | b'x' | b'y' | b'y' | b's' => {
+        b'N' | b'Z' | b'M' | b'B' => called_with_ram(chip, line, &mut ram[..n]),
+        b'S' | b'X' | b'Y' | b'y' | b's' => {
             let bytes = num::part(&*ram, 0, n);
             sounding::sounded(chip, line, bytes, &mut queues[..q], numbers)
         }

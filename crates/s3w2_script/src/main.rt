@@ -58,7 +58,7 @@ impl Lent {
                 self.ram = fields::size(line, 1);
                 self.queues = fields::size(line, 2);
             }
-            b'n' => {
+            b'N' => {
                 self.ram = fields::size(line, 2);
                 self.queues = CHIP_QUEUES;
                 self.core = 0;

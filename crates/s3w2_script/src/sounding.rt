@@ -25,7 +25,7 @@ fn asked_lengths(line: &[u64]) -> Lengths {
     let frames = fields::size(line, 1);
     match fields::letter(line) {
         b's' => both(frames % AT_ONCE),
-        b's' => Lengths {
+        b'S' => Lengths {
             left: num::least(fields::size(line, 2), STEMS),
             right: 0,
         },
@@ -47,7 +47,7 @@ fn more_turns(line: &[u64]) -> usize {
 // How many numbers a line's frames give.
 pub(crate) fn count(line: &[u64]) -> usize {
     match fields::letter(line) {
-        b's' | b'x' | b'y' | b'y' => {
+        b'S' | b'X' | b'Y' | b'y' => {
             let n = asked_lengths(line);
             std::num::wrapping_add_usize(n.left, n.right)
         }
@@ -65,8 +65,8 @@ fn clocked(
     right: &mut [i16],
 ) -> Called {
     match fields::letter(line) {
-        b's' => chip_sound::clock(chip, ram, queues, fields::size(line, 1), left),
-        b'x' => chip_sound::clock_mixed(chip, ram, queues, left, right),
+        b'S' => chip_sound::clock(chip, ram, queues, fields::size(line, 1), left),
+        b'X' => chip_sound::clock_mixed(chip, ram, queues, left, right),
         _ => chip_sound::clock_mixed_into(chip, ram, queues, left, right),
     }
 }

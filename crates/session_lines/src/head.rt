@@ -31,13 +31,13 @@ pub fn write_head(version: SguVersion, size: usize, out: &mut [u8]) -> Written
 fn named(text: &[u8]) -> bool
     ensures { result ≡ is_named text.now }
 {
-    if num::byte_at(text, 0) != b's' {
+    if num::byte_at(text, 0) != b'S' {
         return false;
     }
     if num::byte_at(text, 1) != b'3' {
         return false;
     }
-    if num::byte_at(text, 2) != b'w' {
+    if num::byte_at(text, 2) != b'W' {
         return false;
     }
     num::byte_at(text, 3) == b'2'

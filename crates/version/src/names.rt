@@ -11,7 +11,7 @@ fn is_v(b: u8) -> bool
     if b == b'v' {
         return true;
     }
-    b == b'v'
+    b == b'V'
 }
 
 // How many letters v a text begins with.

@@ -85,7 +85,7 @@ fn fill_ring(queues: &mut [i16], r: Ring, seed: u64) {
 
 // Puts the entries of the queue that an E line tells of a core's voice, oldest first, from its seed.
 pub(crate) fn fill_queue(queues: &mut [i16], core: usize, line: &[u64]) {
-    if fields::letter(line) == b'e' {
+    if fields::letter(line) == b'E' {
         if CHIP_QUEUES <= queues.len() {
             let voice = 8 * (core % 2) + fields::size(line, 1) % 8;
             fill_ring(
@@ -156,7 +156,7 @@ fn fill_fragments(fragments: &mut [i16; 1024], ch: usize, seed: u64) {
 
 // The voice that an E line tells, with the cache that it had, or with the cache that an F line tells.
 fn voice_of(mut old: Channel, line: &[u64]) -> Channel {
-    if fields::letter(line) == b'f' {
+    if fields::letter(line) == b'F' {
         old.stream = cache_of(line);
         return old;
     }
@@ -181,7 +181,7 @@ fn with_voice(mut core: Core, line: &[u64]) -> Core {
 pub(crate) fn changed(core: Core, line: &[u64]) -> Core {
     let mut next = with_voice(core, line);
     let ch = fields::size(line, 1);
-    if fields::letter(line) == b'f' {
+    if fields::letter(line) == b'F' {
         fill_fragments(&mut next.fragments, ch, fields::long(line, 14));
     } else {
         fill_wavetable(&mut next.wavetables, ch, fields::long(line, 29));

@@ -150,7 +150,7 @@ pub(crate) fn put_voice(
     out: &mut [u8],
     at: usize,
 ) -> usize {
-    if letter(line) != b'd' {
+    if letter(line) != b'D' {
         return at;
     }
     let k = size(line, 1) % 8;

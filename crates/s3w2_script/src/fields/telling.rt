@@ -42,9 +42,9 @@ fn saturated(line: &[u64]) -> u64 {
 
 fn number_told(line: &[u64], ram: &[u8]) -> u64 {
     match letter(line) {
-        b'a' => absolute(line) as u64,
-        b'o' => saturated(line),
-        b'u' => named(line) as u64,
+        b'A' => absolute(line) as u64,
+        b'O' => saturated(line),
+        b'U' => named(line) as u64,
         _ => sum_of(ram) as u64,
     }
 }
