@@ -1,5 +1,6 @@
 // One code of an SQV4 stream: its variants, the decoder's state, packed codes and the volume rules.
 #![tactic(auto)]
+
 ghost use Rattle.std.specs.Prelude.{◌≡◌, ℕ, ◌+◌, ◌*◌, ◌%◌, ◌^◌, ◌<◌, ◌≤◌, min, ℤ, pos, slice_index, slice_index_or, unsigned_abs};
 ghost use Rattle.num.specs.Bytes.{field};
 ghost use Rattle.adpcm.specs.Ima.{step_sizes, step_size, index_table, difference as ima_difference, index_after};

@@ -1,4 +1,6 @@
 // Notes by number: the frequency register's value of a note and semitones.
+#![tactic(auto)]
+
 ghost use Rattle.std.specs.Prelude.{◌≡◌};
 ghost use Rattle.notes.specs.Pitches.{sum_at, NearestPitch};
 

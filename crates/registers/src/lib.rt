@@ -1,5 +1,6 @@
 // A voice's registers: waveforms and modulations, what is written and read at an offset, the queue.
 #![tactic(auto)]
+
 mod bytes;
 mod control;
 mod pcm;

@@ -15,4 +15,4 @@ pub loop-ch-preserved : goal.loop-ch-preserved
 loop-ch-preserved c =
     let l = c.loop-ch in
     let a = c.args in
-    (omega arith, bit-more l.ch l.bit l.invariant.1, omega (arith, c.bit_where_off-set.ensures.1, l.invariant.2), set_more l.ch l.set l.bit _ (λ n. off (get_or a.t1 n false) (get_or a.t2 n false)) l.invariant.1 l.invariant.3 c.bit_where_off-set.ensures.0)
+    (omega arith, bit-more l.ch l.bit l.invariant.1, omega (arith, c.bit_where_off-set.ensures.1, l.invariant.2), set_more l.ch l.set l.bit _ (λ n. off (get_or a.was n false) (get_or a.is n false)) l.invariant.1 l.invariant.3 c.bit_where_off-set.ensures.0)

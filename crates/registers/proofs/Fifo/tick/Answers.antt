@@ -1,0 +1,34 @@
+use borrow.Author.Tests.{eq-eqb, ne_eqb}
+use mathlib.Core.Path.{◌≡◌, ap, ◌∙◌}
+use mathlib.Core.List.{List}
+use mathlib.Core.Logic.{⊎_elim}
+use Prim.Native.Nat.{ℕ, ◌+◌, ◌%◌}
+use native.Mathlib.Omega.{arith}
+use lib.Bits.{bit_and, and_mask}
+use lib.IntN.{ℤ}
+use Rattle.registers.specs.Queue.{advanced, ticked}
+use Rattle.registers.specs.declared.Fifo.{Fifo}
+use Rattle.registers.proofs.Fifo.tick.Goals as goal
+
+turn : (n : ℕ) → bit_and (bit_and n 3 + 1) 3 ≡ (n + 1) % 4
+turn n = ap (λ (x : ℕ). bit_and (x + 1) 3) (and_mask n 2) ∙ and_mask (n % 4 + 1) 2 ∙ omega arith
+
+abbrev turned : Fifo → ℕ → Fifo
+turned g n = record { head = g.head; count = g.count; held = g.held; hold = g.hold; sub = bit_and (bit_and n 3 + 1) 3; latch = g.latch }
+
+module _ (f g : Fifo) (q : List ℤ) (frequency : ℕ) where
+  first-tick : f.sub ≡ 0 → g ≡ advanced f q frequency → turned g f.sub ≡ ticked f q frequency
+  unfolding ticked
+  first-tick n e = ap (λ (x : Fifo). turned x f.sub) e ∙ rw (turn f.sub, eq-eqb _ _ n)
+
+  other-tick : (f.sub ≡ 0 → ⊥) → g ≡ f → turned g f.sub ≡ ticked f q frequency
+  unfolding ticked
+  other-tick n e = ap (λ (x : Fifo). turned x f.sub) e ∙ rw (turn f.sub, ne_eqb _ _ n)
+
+pub returns : goal.returns
+returns c =
+    let a = c.args in
+    ⊎_elim
+    (λ w. (first-tick a.self c.if-sub-eq0.f a.queue.now a.frequency w.0.taken (w.5 ∙ w.2.ensures.0), w.4 ∙ w.2.ensures.1))
+    (λ w. (other-tick a.self c.if-sub-eq0.f a.queue.now a.frequency w.0.left w.2, w.1))
+    c.if-sub-eq0.branch
