@@ -6,7 +6,7 @@ use Rattle.registers.proofs.PcmRegisters.read.Goals as goal
 
 pub returns-in-9 : goal.returns-in-9
 unfolding read_pcm
-returns-in-9 c = rw c.in-9.keys1
+returns-in-9 c = rw c.in-9.is
 
 pub returns-in-0-to-2 : goal.returns-in-0-to-2
 returns-in-0-to-2 c = c.byte.ensures ∙ read-start c.args.self c.args.offset (omega arith)

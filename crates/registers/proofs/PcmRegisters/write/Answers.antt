@@ -7,7 +7,7 @@ use Rattle.registers.proofs.PcmRegisters.write.Goals as goal
 
 pub returns-in-9 : goal.returns-in-9
 unfolding write_pcm
-returns-in-9 c = rw (and_mask c.args.value 1, c.in-9.keys1)
+returns-in-9 c = rw (and_mask c.args.value 1, c.in-9.is)
 
 pub returns-in-0-to-2 : goal.returns-in-0-to-2
 returns-in-0-to-2 c = ap (set_start c.args.self) c.with_byte.ensures ∙ write-start c.args.self c.args.offset c.args.value (omega arith)
