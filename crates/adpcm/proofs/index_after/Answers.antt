@@ -19,7 +19,7 @@ fits c =
 
 -- what the local holds
 is : (c : After-least) → to_z w32 (of_z w32 (to_z w32 c.least.result +ℤ to_z w32 (of_z w32 c.args.adjust))) ≡ (pos (min c.args.index 88) +ℤ c.args.adjust)
-is c = rw (to_z_pos w32 (omega (arith, c.least.ensures)), back w32 _ c.ranges.adjust, c.least.ensures) (back w32 _ (fits c))
+is c = rw (to_z_pos w32 {n = c.least.result} (omega (arith, c.least.ensures)), back w32 _ c.ranges.adjust, c.least.ensures) (back w32 _ (fits c))
 
 low : (c : goal.Else-moved-gt88) → lt_z (pos (min c.args.index 88) +ℤ c.args.adjust) (pos 0) ≡ false
 low c = rw (is c.before.before) at c.if-moved-lt0.false
