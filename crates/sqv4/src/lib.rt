@@ -1,5 +1,6 @@
 // SQV4 streams: the check of a file, a fragment's samples, and the whole of a file.
 #![tactic(auto)]
+
 mod check;
 mod fragment;
 mod whole;

@@ -1,4 +1,5 @@
 use mathlib.Core.Path.{◌≡◌}
+use mathlib.Core.List.{[]}
 use Prim.Native.Nat.{◌-◌, ◌≤◌}
 use lib.ListN.{length}
 use Rattle.sides.specs.Sides.{wrapping, added_to, StemRoom}

@@ -1,4 +1,4 @@
-use borrow.Author.Rules.{sfits_of}
+use borrow.Author.Rules.{rules, sfits_of}
 use mathlib.Core.Path.{sym, ◌∙◌}
 use Prim.Native.Nat.{◌+◌, ◌-◌}
 use native.Mathlib.Omega.{arith}
@@ -6,10 +6,14 @@ use lib.IntN.{pos}
 use lib.ListN.{get_or, length-set}
 use mir.Syntax.{w32}
 use mir.Val.{to_z, of_z}
-use Rattle.sides.specs.Sides.{wrapping}
+use Rattle.sides.specs.Sides.{wrapping, added_to}
 use Rattle.sides.proofs.Frames.{side-both}
 use Rattle.sides.proofs.Added.{added_next, wrapping-is}
 use Rattle.sides.proofs.add_both_i32.Goals as goal
+
+pub loop-i-init : goal.loop-i-init
+unfolding added_to
+loop-i-init c = search rules
 
 pub loop-i-preserved : goal.loop-i-preserved
 loop-i-preserved c =

@@ -1,13 +1,11 @@
 use mathlib.Core.Path.{◌≡◌}
 use Prim.Native.Nat.{◌-◌, ◌*◌, ◌≤◌}
 use lib.IntN.{nat_abs}
-use mir.Syntax.{w32}
-use mir.Val.{to_z}
 use Rattle.sides.specs.Sides.{side_sum}
 use Rattle.sides.proofs.side_of.Given as goal
 
 abbrev pub invariant-loop-ch : goal.invariant-loop-ch
-invariant-loop-ch l = (l.ch ≤ 8) × (to_z w32 l.sum ≡ side_sum l.ch l.stems l.from) × (nat_abs (to_z w32 l.sum) ≤ 32768 * l.ch)
+invariant-loop-ch l = (l.ch ≤ 8) × (l.sum ≡ side_sum l.ch l.stems l.from) × (nat_abs l.sum ≤ 32768 * l.ch)
 
 abbrev pub decreases-loop-ch : goal.decreases-loop-ch
 decreases-loop-ch l = 8 - l.ch
