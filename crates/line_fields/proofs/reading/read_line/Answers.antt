@@ -7,10 +7,10 @@ pub returns-in-Upto : goal.returns-in-Upto
 returns-in-Upto c =
     told_line _ _
     (let t = c.take_parts-first.ensures in
-    line_taken _ _ _ _ _ _ _ (sym c.first-1.given.1 ∙ t.0) t.1.0 c.read_queue.ensures.result c.read_queue.ensures.numbers)
+    line_taken _ _ _ _ _ _ _ (sym c.in-Upto.is ∙ t.0) t.1.0 c.read_queue.ensures.result c.read_queue.ensures.numbers)
 
 pub returns-in-Malformed : goal.returns-in-Malformed
 returns-in-Malformed c =
     told_line _ _
     (let t = c.take_parts-first.ensures in
-    line_refused _ _ _ _ _ (sym c.first-in-Malformed-1.given.1 ∙ t.0) t.1.0)
+    line_refused _ _ _ _ _ (sym c.in-Malformed.is ∙ t.0) t.1.0)

@@ -5,21 +5,21 @@ use Rattle.line_fields.proofs.Bounds.{count-range}
 use Rattle.line_fields.proofs.reading.read_queue.Goals as goal
 
 pub overflow_add-to : goal.overflow_add-to
-overflow_add-to c = omega (arith, (count-range _ _ _ _ _ (sym c.part_at-part.ensures.result ∙ c.part-1.given.1)))
+overflow_add-to c = omega (arith, (count-range _ _ _ _ _ (sym c.part_at-part.ensures.result ∙ c.in-At.is)))
 
 pub take_parts-samples-requires : goal.take_parts-samples-requires
-take_parts-samples-requires c = omega (arith, (count-range _ _ _ _ _ (sym c.part_at-part.ensures.result ∙ c.part-1.given.1)))
+take_parts-samples-requires c = omega (arith, (count-range _ _ _ _ _ (sym c.part_at-part.ensures.result ∙ c.in-At.is)))
 
 pub close-requires : goal.close-requires
-close-requires c = omega (arith, (count-range _ _ _ _ _ (sym c.part_at-part.ensures.result ∙ c.part-1.given.1)))
+close-requires c = omega (arith, (count-range _ _ _ _ _ (sym c.part_at-part.ensures.result ∙ c.in-At.is)))
 
 pub returns-in-At-clause-result : goal.returns-in-At-clause-result
 returns-in-At-clause-result c =
-    let p = c.before.before.before.before.before.before.before.before.before.before in (c.close.ensures ∙ queue-taken _ _ _ _ _ _ (sym p.part_at-part.ensures.result ∙ p.part-1.given.1) c.take_parts-samples.ensures.result)
+    let p = c.before.before.before.before.before.before.before.before.before.before in (c.close.ensures ∙ queue-taken _ _ _ _ _ _ (sym p.part_at-part.ensures.result ∙ p.in-At.is) c.take_parts-samples.ensures.result)
 
 pub returns-in-At-clause-numbers : goal.returns-in-At-clause-numbers
 returns-in-At-clause-numbers c =
-    let p = c.before.before.before.before.before.before.before.before.before.before in (queue-stored _ _ _ _ _ _ _ _ (sym p.part_at-part.ensures.result ∙ p.part-1.given.1) c.put_number.ensures c.take_parts-samples.ensures.numbers)
+    let p = c.before.before.before.before.before.before.before.before.before.before in (queue-stored _ _ _ _ _ _ _ _ (sym p.part_at-part.ensures.result ∙ p.in-At.is) c.put_number.ensures c.take_parts-samples.ensures.numbers)
 
 pub returns-in-Malformed : goal.returns-in-Malformed
-returns-in-Malformed c = queue-refused _ _ _ _ _ (sym c.part_at-part.ensures.result ∙ c.part-in-Malformed-1.given.1)
+returns-in-Malformed c = queue-refused _ _ _ _ _ (sym c.part_at-part.ensures.result ∙ c.in-Malformed.is)

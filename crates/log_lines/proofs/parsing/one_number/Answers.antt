@@ -10,13 +10,13 @@ use Rattle.log_lines.proofs.parsing.one_number.Goals as goal
 abbrev In-Natural-2 : Type 0
 In-Natural-2 = Lts.After-taken Tie.the-claims Reads.Pre Reads.Post Tie.handed_clauses
 
-found : (c : In-Natural-2) → one_at c.args.text.now c.args.at c.args.most ≡ one_of c.args.text.now c.args.most (Natural c.taken-1.given.0.0 c.taken-1.given.0.1.0)
+found : (c : In-Natural-2) → one_at c.args.text.now c.args.at c.args.most ≡ one_of c.args.text.now c.args.most (Natural c.in-Natural.value c.in-Natural.next)
 unfolding one_at
-found c = ap (one_of c.args.text.now c.args.most) (sym c.take_natural-taken.ensures ∙ c.taken-1.given.1)
+found c = ap (one_of c.args.text.now c.args.most) (sym c.take_natural-taken.ensures ∙ c.in-Natural.is)
 
 pub returns-in_default-clause-result : goal.returns-in_default-clause-result
 unfolding one_at
-returns-in_default-clause-result c = (sym (ap (one_of _ _) (sym c.take_natural-taken.ensures ∙ c.enum_told-1.given.1)))
+returns-in_default-clause-result c = (sym (ap (one_of _ _) (sym c.take_natural-taken.ensures ∙ c.in_default.is)))
 
 pub returns-then-next-text-clause-result : goal.returns-then-next-text-clause-result
 returns-then-next-text-clause-result c = (sym (found c.before.before ∙ rw (ne_eqb _ _ c.if-next-text.true)))

@@ -29,7 +29,7 @@ returns-in_default c =
     let l = c.loop-position in
     let f = c.fault_in-fault in
     c.told.ensures.result
-    ∙ not-fine f.result c.in_default.keys2 NonZeroPadding (rest a.file.now a.header (l.position + 1))
+    ∙ not-fine f.result c.in_default.in_default-own.keys2 NonZeroPadding (rest a.file.now a.header (l.position + 1))
     ∙ sym (turned c.before.before)
     ∙ l.invariant.2
     ∙ rest_all a.file.now a.header

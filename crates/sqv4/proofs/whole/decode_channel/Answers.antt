@@ -8,7 +8,7 @@ use Rattle.sqv4.proofs.whole.decode_channel.Goals as goal
 inside : (c : goal.After-frame_length-count) → c.loop-frame.from + c.args.header.frame_size ≤ length c.args.file.now
 inside c =
     let l = c.loop-frame in
-    fragment-room c.args.file.now c.args.header c.args.channel l.frame l.from c.requires.0 c.loop-frame-test.true c.requires.1 l.invariant.first
+    fragment-room c.args.file.now c.args.header c.args.channel l.frame l.from c.requires.fact_1 c.loop-frame-test.true c.requires.fact_2 l.invariant.first
 
 pub loop-frame-init : goal.loop-frame-init
 loop-frame-init c = let a = c.args in start a.file.now a.header a.channel a.samples.now
@@ -21,8 +21,8 @@ loop-frame-preserved c =
     let a = c.args in
     let l = c.loop-frame in
     let n = c.frame_length-count in
-    turn a.file.now a.header a.channel a.samples.now l.samples _ l.state _ l.frame l.from l.at n.result c.requires.0 c.loop-frame-test.true
-    n.ensures.1 n.ensures.0 c.decode_part-state.ensures.out c.decode_part-state.ensures.result l.invariant
+    turn a.file.now a.header a.channel a.samples.now l.samples _ l.state _ l.frame l.from l.at n.result c.requires.fact_1 c.loop-frame-test.true
+    n.ensures.bound n.ensures.result c.decode_part-state.ensures.out c.decode_part-state.ensures.result l.invariant
 
 pub returns : goal.returns
 returns c =
