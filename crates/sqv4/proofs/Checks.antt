@@ -30,11 +30,10 @@ pub fault-told : (f : Fault) {r : Inspected} → r ≡ unless_fault f NonZeroPad
 fault-told f e = (e, λ h. ap number_of e ∙ fault-number f NonZeroPadding h)
 
 -- a fault makes what follows it of no account
-pub not-fine : (f : Fault) → (tag_of the_type f ≡ 1) ⊎ (tag_of the_type f ≡ 2) → (x y : Inspected) → unless_fault f x ≡ unless_fault f y
-not-fine Fine (inl e) x y = absurd (omega arith)
-not-fine Fine (inr e) x y = absurd (omega arith)
-not-fine (Step b) e x y = refl
-not-fine Padding e x y = refl
+pub not-fine : (f : Fault) → (f ≡ Fine → ⊥) → (x y : Inspected) → unless_fault f x ≡ unless_fault f y
+not-fine Fine n x y = absurd (n refl)
+not-fine (Step b) n x y = refl
+not-fine Padding n x y = refl
 
 module _ (d : List ℕ) (h : Header) where
   -- how many fragments a file has

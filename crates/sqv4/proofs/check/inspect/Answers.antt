@@ -1,38 +1,58 @@
-use lib.ListN.{get_or}
+use Prim.Native.Nat.{ℕ, ◌<◌, ◌≤◌}
+use mathlib.Core.Bool.{true, false, cond}
+use mathlib.Core.List.{List}
+use lib.Dec.{ltb}
+use lib.ListN.{get_or, length}
+use Rattle.adpcm.specs.declared.VariantByte.{VariantByte}
+use Rattle.adpcm.specs.Codes.{variant_of}
 use Rattle.sqv4.specs.Files.{by_variant}
 use mathlib.Core.Path.{◌≡◌, sym, ap, ◌∙◌}
 use borrow.Author.Tests.{lt-ltb, le-ltb}
-use Rattle.sqv4.specs.Files.{inspected}
+use Rattle.sqv4.specs.Files.{magic, inspected}
 use Rattle.sqv4.proofs.Checks.{numbered}
-use Rattle.sqv4.proofs.check.inspect.Lts
-use Rattle.sqv4.proofs.check.inspect.Reads
-use Rattle.sqv4.proofs.check.inspect.Tie
 use Rattle.sqv4.proofs.check.inspect.Goals as goal
 
-abbrev After-try_from-named : Type 0
-After-try_from-named = Lts.After-try_from Tie.the-claims Reads.Pre Reads.Post Tie.handed_clauses
-
 -- past the tests of length, name and version
-up : (c : After-try_from-named) → inspected c.args.file.now ≡ by_variant c.args.file.now (get_or c.args.file.now 5 0) c.try_from-named.result
+past : (d : List ℕ) (named : VariantByte) → 16 ≤ length d → magic d ≡ true → cond (ltb 0 (get_or d 4 0)) (ltb (get_or d 4 0) 4) false ≡ true → named ≡ variant_of (get_or d 5 0) → inspected d ≡ by_variant d (get_or d 5 0) named
 unfolding inspected
-up c =
-    rw (le-ltb _ 16 c.if-file-lt16.false, sym c.has_magic.ensures ∙ c.if-has_magic.true, sym c.known_version.ensures ∙ c.if-known_version.true)
-    (ap (by_variant c.args.file.now (get_or c.args.file.now 5 0)) (sym c.try_from-named.ensures))
+past d named l m v e = rw (le-ltb _ 16 l, m, v) (ap (by_variant d (get_or d 5 0)) (sym e))
 
-pub returns-then-file-lt16 : goal.returns-then-file-lt16
+pub returns-then-file-lt16-clause-result : goal.returns-then-file-lt16-clause-result
 unfolding inspected
-returns-then-file-lt16 c = numbered (rw (lt-ltb _ 16 c.if-file-lt16.true))
+returns-then-file-lt16-clause-result c = rw (lt-ltb _ 16 c.if-file-lt16.true)
+
+pub returns-then-file-lt16-clause-result_value : goal.returns-then-file-lt16-clause-result_value
+unfolding inspected
+returns-then-file-lt16-clause-result_value c = rw (lt-ltb _ 16 c.if-file-lt16.true)
 
 pub returns-in_default : goal.returns-in_default
-returns-in_default c = numbered (sym (up c.before.before ∙ ap (by_variant c.args.file.now (get_or c.args.file.now 5 0)) c.in_default.is))
+returns-in_default c =
+    let d = c.args.file.now in
+    let e = past d c.try_from-named.result c.if-file-lt16.false (sym c.has_magic.ensures ∙ c.if-has_magic.true) (sym c.known_version.ensures ∙ c.if-known_version.true) c.try_from-named.ensures in
+    let n = numbered (sym (e ∙ ap (by_variant d (get_or d 5 0)) c.in_default.is)) in
+    record { result = n.0; result_value = n.1 }
 
 pub returns-then-known_version : goal.returns-then-known_version
-returns-then-known_version c = numbered (c.check_named.ensures ∙ sym (up c.before.before.before.before ∙ ap (by_variant c.args.file.now (get_or c.args.file.now 5 0)) c.in-Known.is))
+returns-then-known_version c =
+    let d = c.args.file.now in
+    let e = past d c.try_from-named.result c.if-file-lt16.false (sym c.has_magic.ensures ∙ c.if-has_magic.true) (sym c.known_version.ensures ∙ c.if-known_version.true) c.try_from-named.ensures in
+    let n = numbered (c.check_named.ensures ∙ sym (e ∙ ap (by_variant d (get_or d 5 0)) c.in-Known.is)) in
+    record { result = n.0; result_value = n.1 }
 
-pub returns-then-has_magic : goal.returns-then-has_magic
+pub returns-then-has_magic-clause-result : goal.returns-then-has_magic-clause-result
 unfolding inspected
-returns-then-has_magic c = numbered (rw (le-ltb _ 16 c.if-file-lt16.false, sym c.has_magic.ensures ∙ c.if-has_magic.true, sym c.known_version.ensures ∙ c.if-known_version.false))
+returns-then-has_magic-clause-result c =
+    rw (le-ltb _ 16 c.if-file-lt16.false, sym c.has_magic.ensures ∙ c.if-has_magic.true, sym c.known_version.ensures ∙ c.if-known_version.false)
 
-pub returns : goal.returns
+pub returns-then-has_magic-clause-result_value : goal.returns-then-has_magic-clause-result_value
 unfolding inspected
-returns c = numbered (rw (le-ltb _ 16 c.if-file-lt16.false, sym c.has_magic.ensures ∙ c.if-has_magic.false))
+returns-then-has_magic-clause-result_value c =
+    rw (le-ltb _ 16 c.if-file-lt16.false, sym c.has_magic.ensures ∙ c.if-has_magic.true, sym c.known_version.ensures ∙ c.if-known_version.false)
+
+pub returns-clause-result : goal.returns-clause-result
+unfolding inspected
+returns-clause-result c = rw (le-ltb _ 16 c.if-file-lt16.false, sym c.has_magic.ensures ∙ c.if-has_magic.false)
+
+pub returns-clause-result_value : goal.returns-clause-result_value
+unfolding inspected
+returns-clause-result_value c = rw (le-ltb _ 16 c.if-file-lt16.false, sym c.has_magic.ensures ∙ c.if-has_magic.false)

@@ -28,7 +28,7 @@ loop-i-preserved c =
     rw (c.unpack_bits.ensures ∙ code, c.least-index.ensures, c.step_sizes-steps.ensures) at dc.ensures
     ∙ read_is a.version a.variant l.state (code_at a.payload.now l.i (bits_of a.variant)) in
     let es : so.result ≡ sound_of a.version dc.result.predictor a.volume = rw (to_z-of_z near) at so.ensures in
-    let ep : c.put.new.0 ≡ set l.out l.at so.result = rw (to_z-of_z (sfits_of so.type_inv)) at c.put.ensures in
+    let ep : c.put.new.out ≡ set l.out l.at so.result = rw (to_z-of_z (sfits_of so.type_inv)) at c.put.ensures in
     let h = c.loop-i-test.true in (
       omega (arith, h),
       omega (arith, c.requires.1),
