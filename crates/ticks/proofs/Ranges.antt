@@ -15,7 +15,7 @@ use Rattle.num.proofs.Choice.{cond-by, both, together}
 use Rattle.num.proofs.Integers.{fit}
 use Rattle.tone.specs.Phase.{whole, fraction, stepped}
 use Rattle.tone.specs.Taps.{wave_after, blend, raised}
-use Rattle.tone.specs.Shape.{ring, window, slew, slewed}
+use Rattle.tone.specs.Shape.{ring, window, slewed}
 use Rattle.tone.specs.Noise.{noise_value}
 use Rattle.tone.specs.Pcm.{pcm_address, pcm_next, pcm_is_over}
 use Rattle.tone.specs.Mix.{last_sample_of}

@@ -1,4 +1,6 @@
 // The ticks of every waveform but the stream, and a voice's ticks into its two sides.
+#![tactic(auto)]
+
 mod loops;
 mod mix;
 mod noise;

@@ -1,0 +1,12 @@
+use mathlib.Core.Path.{◌≡◌}
+use mathlib.Core.Bool.{false}
+use Prim.Native.Nat.{◌-◌, ◌≤◌}
+use Rattle.ticks.specs.Pcm.{pcm_tick}
+use Rattle.ticks.specs.Sounds.{ticks_of}
+use Rattle.ticks.proofs.Sound.pcm_modulated_by.Given as goal
+
+abbrev pub invariant-loop-k : goal.invariant-loop-k
+invariant-loop-k l = (l.v ≡ ticks_of l.k (pcm_tick l.s l.p l.ram) l.s false l.t l.initial.v) × (l.k ≤ l.n)
+
+abbrev pub decreases-loop-k : goal.decreases-loop-k
+decreases-loop-k l = l.n - l.k
