@@ -1,4 +1,6 @@
 // Eight voices with the tables beside them.
+#![tactic(auto)]
+
 mod accepted;
 mod activity;
 mod addresses;
