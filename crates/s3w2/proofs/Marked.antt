@@ -1,15 +1,13 @@
 -- Document 01's eight marked cases, computed together. Assumes nothing.
-use mathlib.Core.Path.{◌≡◌, refl, sym, ap, ◌∙◌}
-use mathlib.Core.List.{List, [], ◌∷◌, ◌++◌}
-use Prim.Native.Nat.{ℕ, suc, ◌+◌, ◌≤◌}
+use mathlib.Core.Path.{◌≡◌, ap, ◌∙◌}
+use mathlib.Core.List.{List, [], ◌∷◌}
+use Prim.Native.Nat.{ℕ}
 use native.Mathlib.Omega.{arith}
 use lib.IntN.{ℤ, pos, negsuc}
-use lib.ListN.{length, take, drop, take-append-drop}
-use lib.Seq.{sets, sets-eq, length-take-le}
-use Rattle.num.specs.Lists.{part}
-use Rattle.sizes.specs.Sizes.{num_channels, queue_buffer, fifo_capacity}
+use lib.ListN.{length}
+use Rattle.sizes.specs.Sizes.{queue_buffer, fifo_capacity}
 use Rattle.adpcm.specs.Ima.{step_sizes, step_size, difference}
-use Rattle.adpcm.specs.Codes.{levels_of, delta_of, applied_volume, legacy_volume}
+use Rattle.adpcm.specs.Codes.{levels_of, delta_of}
 use Rattle.tone.specs.Shape.{ring, slew_rate, slew_step, slew, slewed, centred}
 use Rattle.tone.specs.Noise.{next_lfsr}
 use Rattle.tone.specs.Targets.{absolute_channel}
@@ -30,7 +28,7 @@ use Rattle.voices.specs.Writes.{write_register, write_register_queues, write_blo
 use Rattle.voices.specs.declared.Core.{Core}
 use Rattle.sides.specs.Sides.{side_sum}
 use Rattle.frames.specs.Ticking.{voice_tick, voice_ticks}
-use Rattle.frames.specs.Turning.{turned, frame}
+use Rattle.frames.specs.Turning.{turned}
 use Rattle.frames.proofs.Parts.{part-back}
 use Rattle.s3w2.specs.Marked.{left_side_after, fifo_writes, found, wanted}
 

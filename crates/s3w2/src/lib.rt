@@ -1,4 +1,6 @@
 // The chip: two cores of eight voices over one lent RAM and one lent queue buffer, and its calls with their refusals.
+#![tactic(auto)]
+
 mod addressed;
 mod channels;
 mod fresh;
