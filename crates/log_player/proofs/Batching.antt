@@ -15,7 +15,7 @@ use Rattle.num.proofs.Choice.{never}
 use Rattle.decimal.specs.Written.{Put}
 use Rattle.decimal.proofs.Writing.{put-append, put-none}
 use Rattle.frames.specs.declared.Asked.TheVariants as asked
-use Rattle.frames.specs.Listing.{write_register_kind, write_pcm_ram_kind, read_register_kind, peek_register_kind, set_version_kind, asked_of, clocked_as, clocked_by, frames_asked}
+use Rattle.frames.specs.Listing.{write_register_kind, write_pcm_ram_kind, set_version_kind, asked_of, clocked_as, clocked_by, frames_asked}
 use Rattle.frames.proofs.Counts.{zero-add, frames-more, frames-within, grown}
 use Rattle.log_lines.specs.declared.Line.{Line}
 use Rattle.log_lines.specs.declared.Line.TheVariants.{Write, WriteRam, Read, Peek, Clock, Version, Malformed, Unmapped}

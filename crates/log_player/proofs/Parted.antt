@@ -23,8 +23,8 @@ use Rattle.log_player.specs.Worlds.{World, world, fresh_player, fresh_world}
 use Rattle.log_player.specs.Applied.{after_line, printed}
 use Rattle.log_player.specs.Logs.{rest_text, log_text}
 use Rattle.log_player.specs.Steps.{first_line, next_of}
-use Rattle.log_player.specs.Runs.{has_room, Spot, spot, spot_behind, is_line, found_by, plays_line, lines_played, Run, stop_text, stops_at, run_from, refused_by, log_run}
-use Rattle.log_player.specs.Parts.{text_before, followed, runs_over, unless_bad, parts_printed, joined}
+use Rattle.log_player.specs.Runs.{has_room, Spot, spot, spot_behind, is_line, found_by, plays_line, lines_played, Run, stop_text, run_from, refused_by, log_run}
+use Rattle.log_player.specs.Parts.{followed, runs_over, unless_bad, parts_printed, joined}
 use Rattle.log_player.proofs.Stops.{next_past}
 use Rattle.log_player.proofs.Whole.{step_line, step-bad, step_end}
 use Rattle.log_player.proofs.Rooms.{room-is}

@@ -1,26 +1,20 @@
 -- A run's lines, one after the other. Assumes nothing.
 use mathlib.Core.Path.{◌≡◌, refl, sym, ap, ◌∙◌}
 use mathlib.Core.Bool.{Bool, true, false, cond}
-use mathlib.Core.List.{List, [], ◌∷◌, ◌++◌, append_assoc, append-nil}
+use mathlib.Core.List.{List}
 use Prim.Native.Nat.{ℕ, zero, suc, ◌+◌, ◌≤◌, ◌<◌}
 use native.Mathlib.Omega.{arith}
-use native.Mathlib.Decide.{dec_le}
 use lib.Dec.{eqb, leb}
-use lib.ListN.{length, drop, length-drop}
-use lib.Seq.{drop-drop}
-use borrow.Author.Tests.{eqb-true, eqb-false}
+use lib.ListN.{length, drop}
+use borrow.Author.Tests.{eqb-false}
 use Rattle.num.proofs.Choice.{never}
 use Rattle.log_lines.specs.declared.Line.TheVariants.{Malformed}
 use Rattle.log_lines.specs.Lines.{parsed_line, bad_number, is_bad}
 use Rattle.log_player.specs.declared.Next.{Next}
 use Rattle.log_player.specs.declared.Next.TheVariants.{Line, Rest, Bad, Refused}
-use Rattle.log_player.specs.Worlds.{World}
-use Rattle.log_player.specs.Applied.{after_line, printed}
-use Rattle.log_player.specs.Logs.{rest_text}
 use Rattle.log_player.specs.Steps.{first_line, next_of}
 use Rattle.log_player.specs.Runs.{has_room, Spot, spot_behind, is_line, found_by, plays_line, lines_played, Run, stops_at, run_from}
 use Rattle.log_player.proofs.Stops.{first_short, next_past}
-use Rattle.log_player.proofs.Whole.{step_line, step-bad}
 
 -- a line that may be played ends within what it is the first line of
 pub line-within : (rest : List ℕ) (at : ℕ) → is_line (next_of rest at) ≡ true → length (first_line rest) < length rest

@@ -1,4 +1,6 @@
 // A log played: each line on a chip, and the text that it prints.
+#![tactic(auto)]
+
 mod batches;
 mod playing;
 mod runs;
