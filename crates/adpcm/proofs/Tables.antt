@@ -1,5 +1,5 @@
 -- Bounds of the tables' entries, each by one computed test over its table. Assumes nothing.
-use Rattle.std.proofs.Common.{◌≡◌, ℕ, zero, suc, ◌+◌, ◌-◌, ◌*◌, ◌/◌, ◌%◌, ◌^◌, ◌<◌, ◌≤◌, min, Bool, true, false, cond, T, eqb, ltb, leb, List, [], ◌∷◌, get_or, ℤ, pos, negsuc, nat_abs, refl, arith, ltb→lt, leb→le}
+use Rattle.std.proofs.Common.{◌≡◌, ℕ, zero, suc, ◌+◌, ◌-◌, ◌*◌, ◌/◌, ◌%◌, ◌^◌, ◌<◌, ◌≤◌, min, cond, T, eqb, ltb, leb, List, [], ◌∷◌, get_or, ℤ, pos, negsuc, nat_abs, refl, arith, ltb→lt, leb→le}
 use Rattle.num.proofs.Choice.{cond-by}
 use Rattle.num.proofs.Tables.{all_of, at_all}
 use Rattle.adpcm.specs.declared.Variant.{Variant}

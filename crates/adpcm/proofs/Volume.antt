@@ -1,7 +1,6 @@
 -- A volume of at most 255 keeps a sample within 16 bits. Assumes nothing.
-use Rattle.std.proofs.Common.{◌≡◌, ℕ, ◌+◌, ◌*◌, ◌/◌, ◌≤◌, Bool, true, false, ℤ, pos, neg_ℤ, nat_abs, mul-le-mul_left, arith, w16, SFits}
+use Rattle.std.proofs.Common.{ℕ, ◌+◌, ◌*◌, ◌/◌, ◌≤◌, ℤ, pos, neg_ℤ, nat_abs, mul-le-mul_left, arith, w16, SFits}
 use lib.Signed.{lt_z}
-use Rattle.num.specs.Integers.{up, down}
 use Rattle.num.proofs.Choice.{cond-by}
 use Rattle.num.proofs.Integers.{fit, fit-up, fit-down, abs_is, one-zero, lt_z-false, up-minus, down-minus}
 use Rattle.adpcm.specs.Codes.{applied_volume}

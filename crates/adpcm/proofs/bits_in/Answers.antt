@@ -1,4 +1,4 @@
-use Rattle.std.proofs.Common.{◌≡◌, ℕ, ◌*◌, ◌%◌, ◌^◌, ◌<◌, ◌≤◌, get_or, sym, ◌∙◌, one-mul, arith, lit<, shl_exact}
+use Rattle.std.proofs.Common.{◌≡◌, ℕ, ◌*◌, ◌%◌, ◌^◌, ◌≤◌, sym, ◌∙◌, one-mul, arith, lit<, shl_exact}
 use lib.Bits.{and_mask}
 use Rattle.num.proofs.Bytes.{window}
 use Rattle.adpcm.proofs.Packed.{bits-past}

@@ -1,4 +1,4 @@
-use Rattle.std.proofs.Common.{◌-◌, sym, refl, arith}
+use Rattle.std.proofs.Common.{sym, refl, arith}
 use Rattle.adpcm.specs.Codes.{overlaid}
 use Rattle.adpcm.proofs.Packed.{byte_more}
 use Rattle.adpcm.proofs.overlay.Goals as goal

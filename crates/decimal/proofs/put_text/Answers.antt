@@ -1,4 +1,3 @@
-use Prim.Native.Nat.{◌-◌}
 use native.Mathlib.Omega.{arith}
 use Rattle.decimal.proofs.Writing.{put_next}
 use Rattle.decimal.proofs.put_text.Goals as goal

@@ -1,9 +1,6 @@
-use mathlib.Core.Bool.{true}
 use mathlib.Core.Path.{sym, ◌∙◌}
-use Prim.Native.Nat.{◌-◌}
 use native.Mathlib.Omega.{arith}
 use Rattle.decimal.proofs.Reading.{digit-in, digit-least, digit-most, spelled-done, spelled_step, spelled-over}
-use Rattle.decimal.specs.Read.{digit_at}
 use Rattle.decimal.proofs.take_digits.Goals as goal
 
 pub bounds-text-i : goal.bounds-text-i

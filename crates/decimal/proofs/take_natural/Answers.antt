@@ -1,9 +1,7 @@
-use mathlib.Core.Bool.{true}
 use mathlib.Core.Path.{sym, ◌∙◌}
 use Prim.Native.Nat.{◌<◌}
 use lib.ListN.{length}
 use Rattle.decimal.proofs.Reading.{digit-in, natural-none, natural-zero, natural-zeros, natural-digits}
-use Rattle.decimal.specs.Read.{digit_at}
 use Rattle.decimal.proofs.take_natural.Goals as goal
 
 inside : (c : goal.After-shared_slice_known-2-1-unread) → c.args.at < length c.args.text.now

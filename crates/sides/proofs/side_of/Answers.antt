@@ -1,6 +1,5 @@
 use borrow.Author.Rules.{sfits_of}
 use mathlib.Core.Path.{refl}
-use Prim.Native.Nat.{◌-◌}
 use native.Mathlib.Omega.{arith}
 use Rattle.sides.proofs.Sums.{sum-next, next_small}
 use Rattle.sides.specs.Sides.{side_sum}

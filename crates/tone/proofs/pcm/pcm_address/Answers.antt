@@ -1,4 +1,4 @@
-use Rattle.std.proofs.Common.{◌-◌, refl}
+use Rattle.std.proofs.Common.{refl}
 use Rattle.tone.specs.Pcm.{pcm_address}
 use Rattle.tone.proofs.pcm.pcm_address.Goals as goal
 

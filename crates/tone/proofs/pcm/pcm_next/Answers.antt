@@ -1,4 +1,4 @@
-use Rattle.std.proofs.Common.{◌≡◌, ◌+◌, ◌-◌, ◌%◌, ◌^◌, refl, le-ltb, lt-ltb}
+use Rattle.std.proofs.Common.{◌≡◌, ◌+◌, ◌%◌, ◌^◌, refl, le-ltb, lt-ltb}
 use Rattle.tone.specs.Pcm.{pcm_next}
 use Rattle.tone.proofs.pcm.pcm_next.Lts
 use Rattle.tone.proofs.pcm.pcm_next.Reads

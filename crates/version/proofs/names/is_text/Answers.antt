@@ -1,5 +1,4 @@
 use mathlib.Core.Path.{sym, ◌∙◌}
-use Prim.Native.Nat.{◌-◌}
 use native.Mathlib.Omega.{arith}
 use Rattle.version.proofs.Texts.{same-lengths, same_next, same_stop, same_end}
 use Rattle.version.proofs.names.is_text.Goals as goal

@@ -1,5 +1,4 @@
 use mathlib.Core.Path.{sym, ◌∙◌}
-use Prim.Native.Nat.{◌-◌}
 use native.Mathlib.Omega.{arith}
 use Rattle.version.proofs.Texts.{v_next, v-stop, v-end}
 use Rattle.version.proofs.names.v_count.Goals as goal

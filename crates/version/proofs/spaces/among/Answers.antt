@@ -1,5 +1,4 @@
 use mathlib.Core.Path.{sym, ◌∙◌}
-use Prim.Native.Nat.{◌-◌}
 use native.Mathlib.Omega.{arith}
 use Rattle.version.proofs.Texts.{among-here, among_next, among-end}
 use Rattle.version.proofs.spaces.among.Goals as goal

@@ -1,5 +1,5 @@
 use mathlib.Core.Path.{◌≡◌}
-use Prim.Native.Nat.{◌-◌, ◌≤◌}
+use Prim.Native.Nat.{◌≤◌}
 use lib.ListN.{length, take}
 use Rattle.version.specs.Spaces.{trim_end, trim_end_in}
 use Rattle.version.proofs.spaces.text_end.Given as goal
