@@ -1,5 +1,5 @@
 -- One call of a list: what it makes at once, and the turns that it leaves. Assumes nothing.
-use Rattle.std.proofs.Common.{◌≡◌, ℕ, ◌-◌, ◌*◌, ◌<◌, Bool, true, false, cond, eqb, ltb, List, length, get_or, set, ℤ, sym, refl, ap, ◌∙◌, subst, arith, length-set, get_or-set_other, get_or-set_same, ne_eqb, eqb-true}
+use Rattle.std.proofs.Common.{◌≡◌, ℕ, ◌*◌, ◌<◌, Bool, true, false, cond, eqb, ltb, List, length, get_or, set, ℤ, sym, refl, ap, ◌∙◌, subst, arith, length-set, get_or-set_other, get_or-set_same, ne_eqb, eqb-true}
 use lib.Seq.{set_out}
 use borrow.Author.Tests.{eqb-false}
 use native.Mathlib.Decide.{dec_lt}

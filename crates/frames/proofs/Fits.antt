@@ -1,6 +1,5 @@
 -- The ranges that the types of a channel's parts give.
-use Rattle.std.proofs.Common.{ℕ, zero, suc, List, [], ◌∷◌, map, arith}
-use lib.ListN.{length-map}
+use Rattle.std.proofs.Common.{ℕ, zero, suc, List, [], ◌∷◌, arith}
 use denote.Shadow.{shadow}
 use denote.RattleType.{owns}
 use mir.Val.{Val}

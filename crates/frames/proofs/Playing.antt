@@ -11,7 +11,7 @@ use Rattle.voices.specs.declared.Core.{Core}
 use Rattle.frames.specs.declared.Asked.{Asked}
 use Rattle.frames.specs.declared.Asked.TheVariants as variants
 use Rattle.frames.specs.Ticking.{voiced, voice_ticks}
-use Rattle.frames.specs.Turning.{Turns, turned}
+use Rattle.frames.specs.Turning.{turned}
 use Rattle.frames.specs.Listing.{asked_of, Listed, with_turns, clock_turns, call_as, listed, clocked_as, clocked_by, frames_asked}
 use Rattle.frames.proofs.Loop.{done_more}
 use Rattle.frames.proofs.Turns.{Ready, Turn}

@@ -1,5 +1,5 @@
 -- A list in runs: calls that write to the RAM, then calls that do not. Assumes nothing.
-use Rattle.std.proofs.Common.{◌≡◌, ℕ, zero, suc, ◌+◌, ◌-◌, ◌*◌, ◌<◌, ◌≤◌, true, false, cond, not, eqb, ltb, List, [], ◌++◌, length, get_or, take, drop, set, ℤ, sym, refl, ap, ◌∙◌, subst, ap₂, append_assoc, append-nil, arith, length-append, length-drop, length-set, length-take, get_or-drop, get_or-take, eqb-true}
+use Rattle.std.proofs.Common.{◌≡◌, ℕ, zero, suc, ◌+◌, ◌-◌, ◌*◌, ◌<◌, ◌≤◌, true, false, cond, eqb, ltb, List, [], ◌++◌, length, get_or, take, drop, set, ℤ, sym, refl, ap, ◌∙◌, subst, ap₂, append_assoc, append-nil, arith, length-append, length-drop, length-set, length-take, get_or-drop, get_or-take, eqb-true}
 use native.Mathlib.Decide.{dec_lt}
 use lib.Seq.{sets, length-sets}
 use Rattle.sizes.specs.Sizes.{queue_buffer, stems_per_frame}

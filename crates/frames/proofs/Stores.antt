@@ -27,7 +27,7 @@ use Rattle.voice.specs.declared.Kind.{Kind}
 use Rattle.voice.specs.declared.Kind.TheVariants as kinds
 use Rattle.voices.specs.Core.{no_channel, channel_at, set_channel}
 use Rattle.voices.specs.declared.Core.{Core}
-use Rattle.frames.specs.Ticking.{Voiced, voiced, target, sound_from, queue_from, stream_from, sound_stored, stream_stored, ticks_as, voice_tick, voice_ticks}
+use Rattle.frames.specs.Ticking.{Voiced, voiced, sound_from, queue_from, stream_from, sound_stored, stream_stored, ticks_as, voice_tick, voice_ticks}
 use Rattle.frames.proofs.StreamRuns.{over, goes-on}
 
 twice : {A : Type 0} (b : Bool) (v x y : A) (f : A → A) → f x ≡ y → cond b (cond b v x) (f (cond b v x)) ≡ cond b v y

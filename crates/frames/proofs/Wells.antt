@@ -17,7 +17,7 @@ use Rattle.voices.specs.Core.{no_channel, channel_at, set_channel, set_fragments
 use Rattle.voices.specs.declared.Core.{Core}
 use Rattle.frames.specs.Kept.{EachByte, FitSounding}
 use Rattle.frames.specs.Ticking.{Voiced, voiced, voice_ticks}
-use Rattle.frames.specs.Turning.{turned, frames}
+use Rattle.frames.specs.Turning.{turned}
 use Rattle.frames.proofs.Keeping.{sound-kept, queue-kept-from}
 use Rattle.frames.proofs.Turns.{Ready, Turn, silent-turn, sound-turn, queue-turn, whole-kept, whole-turn}
 

@@ -1,5 +1,5 @@
 -- A list of calls on eight voices, one after the other: kinds, addresses and values, one of each a call.
-use Rattle.std.specs.Prelude.{◌≡◌, ℕ, zero, suc, ◌+◌, ◌-◌, ◌*◌, ◌<◌, ◌≤◌, min, Bool, cond, ◌&&◌, List, [], ◌++◌, length, ℤ, ◌==◌, nat_lt, slice_index, slice_set}
+use Rattle.std.specs.Prelude.{◌≡◌, ℕ, zero, suc, ◌+◌, ◌*◌, ◌<◌, ◌≤◌, min, Bool, cond, ◌&&◌, List, [], ◌++◌, length, ℤ, ◌==◌, nat_lt, slice_index, slice_set}
 use Rattle.sizes.specs.Sizes.{num_channels, stems_per_frame}
 use Rattle.version.specs.Versions.{version_of}
 use Rattle.version.specs.declared.SguVersion.{SguVersion}

@@ -1,4 +1,6 @@
 // Turns of the eight voices: so many ticks of one after another; lists of calls, whose clocks are turns.
+#![tactic(auto)]
+
 mod asking;
 mod lists;
 mod loops;
