@@ -6,7 +6,7 @@ use Prim.Native.Nat.{ℕ}
 use lib.Dec.{leb}
 use lib.ListN.{length}
 use Rattle.line_fields.specs.Reading.{PartsTaken, got, wrong, ReadLine, line, malformed, parts_of, fields_of, part_number, parts_number, fields_number, taken_refusal, line_refusal}
-use Rattle.line_fields.specs.Text.{written_of, put_of, written_number, room_refusal}
+use Rattle.line_fields.specs.Text.{written_of, written_number, room_refusal}
 use Rattle.line_fields.specs.declared.Part.{Part}
 use Rattle.line_fields.specs.declared.Parts.{Parts}
 use Rattle.line_fields.specs.declared.Fields.{Fields}

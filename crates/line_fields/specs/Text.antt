@@ -1,5 +1,5 @@
 -- A line written: fields parted by commas, ended by byte 10.
-use Rattle.std.specs.Prelude.{cond, List, [], ◌∷◌, ◌++◌, ℕ, suc, ◌+◌, eqb, leb, length}
+use Rattle.std.specs.Prelude.{cond, List, [], ◌∷◌, ◌++◌, ℕ, suc, eqb, leb, length}
 use Rattle.std.proofs.lemmas.List.Edits.{sets}
 use Rattle.decimal.specs.Written.{decimal, render}
 use Rattle.line_fields.specs.Table.{is_sample, sample_of_number}

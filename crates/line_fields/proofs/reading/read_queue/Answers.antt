@@ -5,21 +5,24 @@ use Rattle.line_fields.proofs.Bounds.{count-range}
 use Rattle.line_fields.proofs.reading.read_queue.Goals as goal
 
 pub overflow_add-to : goal.overflow_add-to
-overflow_add-to c = omega (arith, (count-range _ _ _ _ _ (sym c.part_at-part.ensures.result ∙ c.in-At.is)))
+overflow_add-to c = omega (arith, count-range _ _ _ _ _ (sym c.part_at-part.ensures.result ∙ c.in-At.is))
 
 pub take_parts-samples-requires : goal.take_parts-samples-requires
-take_parts-samples-requires c = omega (arith, (count-range _ _ _ _ _ (sym c.part_at-part.ensures.result ∙ c.in-At.is)))
+take_parts-samples-requires c = omega (arith, count-range _ _ _ _ _ (sym c.part_at-part.ensures.result ∙ c.in-At.is))
 
 pub close-requires : goal.close-requires
-close-requires c = omega (arith, (count-range _ _ _ _ _ (sym c.part_at-part.ensures.result ∙ c.in-At.is)))
+close-requires c = omega (arith, count-range _ _ _ _ _ (sym c.part_at-part.ensures.result ∙ c.in-At.is))
 
 pub returns-in-At-clause-result : goal.returns-in-At-clause-result
 returns-in-At-clause-result c =
-    let p = c.before.before.before.before.before.before.before.before.before.before in (c.close.ensures ∙ queue-taken _ _ _ _ _ _ (sym p.part_at-part.ensures.result ∙ p.in-At.is) c.take_parts-samples.ensures.result)
+    c.close.ensures ∙ queue-taken _ _ _ _ _ _ (sym c.part_at-part.ensures.result ∙ c.in-At.is) c.take_parts-samples.ensures.result
 
 pub returns-in-At-clause-numbers : goal.returns-in-At-clause-numbers
 returns-in-At-clause-numbers c =
-    let p = c.before.before.before.before.before.before.before.before.before.before in (queue-stored _ _ _ _ _ _ _ _ (sym p.part_at-part.ensures.result ∙ p.in-At.is) c.put_number.ensures c.take_parts-samples.ensures.numbers)
+    queue-stored _ _ _ _ _ _ _ _ (sym c.part_at-part.ensures.result ∙ c.in-At.is) c.put_number.ensures c.take_parts-samples.ensures.numbers
 
 pub returns-in-Malformed : goal.returns-in-Malformed
-returns-in-Malformed c = queue-refused _ _ _ _ _ (sym c.part_at-part.ensures.result ∙ c.in-Malformed.is)
+returns-in-Malformed c =
+    let a = c.args in
+    let t = queue-refused a.fifo a.text.now a.at c.in-Malformed.field a.numbers.now (sym c.part_at-part.ensures.result ∙ c.in-Malformed.is) in
+    record { result = t.0; numbers = t.1 }

@@ -1,5 +1,4 @@
 use mathlib.Core.Path.{sym}
-use Prim.Native.Nat.{◌-◌}
 use Rattle.line_fields.proofs.Putting.{nothing_put, one-put, no_room, all_room}
 use Rattle.line_fields.proofs.writing.fits.Goals as goal
 
