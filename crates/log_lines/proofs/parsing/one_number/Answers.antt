@@ -1,28 +1,35 @@
 use mathlib.Core.Path.{◌≡◌, sym, ap, ◌∙◌}
+use mathlib.Core.List.{List}
+use Prim.Native.Nat.{ℕ}
 use borrow.Author.Tests.{eq-eqb, ne_eqb, le-leb, lt-leb}
-use Rattle.decimal.specs.declared.TakenNatural.TheVariants.{Natural}
+use Rattle.decimal.specs.Read.{natural_at}
+use Rattle.decimal.specs.declared.TakenNatural.{TakenNatural}
 use Rattle.log_lines.specs.Lines.{one_of, one_at}
-use Rattle.log_lines.proofs.parsing.one_number.Lts
-use Rattle.log_lines.proofs.parsing.one_number.Reads
-use Rattle.log_lines.proofs.parsing.one_number.Tie
 use Rattle.log_lines.proofs.parsing.one_number.Goals as goal
 
-abbrev In-Natural-2 : Type 0
-In-Natural-2 = Lts.After-taken Tie.the-claims Reads.Pre Reads.Post Tie.handed_clauses
-
-found : (c : In-Natural-2) → one_at c.args.text.now c.args.at c.args.most ≡ one_of c.args.text.now c.args.most (Natural c.in-Natural.value c.in-Natural.next)
+found : (text : List ℕ) (at most : ℕ) (taken t : TakenNatural) → taken ≡ natural_at text at → taken ≡ t → one_at text at most ≡ one_of text most t
 unfolding one_at
-found c = ap (one_of c.args.text.now c.args.most) (sym c.take_natural-taken.ensures ∙ c.in-Natural.is)
+found text at most taken t e f = ap (one_of text most) (sym e ∙ f)
 
 pub returns-in_default-clause-result : goal.returns-in_default-clause-result
-unfolding one_at
-returns-in_default-clause-result c = (sym (ap (one_of _ _) (sym c.take_natural-taken.ensures ∙ c.in_default.is)))
+returns-in_default-clause-result c =
+    let a = c.args in sym (found a.text.now a.at a.most _ _ c.take_natural-taken.ensures c.in_default.is)
 
 pub returns-then-next-text-clause-result : goal.returns-then-next-text-clause-result
-returns-then-next-text-clause-result c = (sym (found c.before.before ∙ rw (ne_eqb _ _ c.if-next-text.true)))
+returns-then-next-text-clause-result c =
+    let a = c.args in
+    sym (found a.text.now a.at a.most _ _ c.take_natural-taken.ensures c.in-Natural.is ∙ rw (ne_eqb _ _ c.if-next-text.true))
 
 pub returns-then-most-value-clause-result : goal.returns-then-most-value-clause-result
-returns-then-most-value-clause-result c = (sym (found c.before.before.before ∙ rw (eq-eqb _ _ c.if-next-text.false, lt-leb _ _ c.if-most-value.true)))
+returns-then-most-value-clause-result c =
+    let a = c.args in
+    sym
+    (found a.text.now a.at a.most _ _ c.take_natural-taken.ensures c.in-Natural.is
+    ∙ rw (eq-eqb _ _ c.if-next-text.false, lt-leb _ _ c.if-most-value.true))
 
 pub returns-clause-result : goal.returns-clause-result
-returns-clause-result c = (sym (found c.before.before.before ∙ rw (eq-eqb _ _ c.if-next-text.false, le-leb _ _ c.if-most-value.false)))
+returns-clause-result c =
+    let a = c.args in
+    sym
+    (found a.text.now a.at a.most _ _ c.take_natural-taken.ensures c.in-Natural.is
+    ∙ rw (eq-eqb _ _ c.if-next-text.false, le-leb _ _ c.if-most-value.false))
