@@ -1,5 +1,5 @@
 -- A voice as the numbers of its line's fields, and the voice that numbers are. In range, a number is its own byte, word or long.
-use Rattle.std.specs.Prelude.{Bool, true, false, List, [], ◌∷◌, ◌++◌, map, ℕ, zero, suc, ◌+◌, ◌%◌, min, eqb, ℤ, get_or}
+use Rattle.std.specs.Prelude.{Bool, true, false, List, [], ◌∷◌, ◌++◌, map, ℕ, zero, suc, ◌%◌, min, eqb, ℤ, get_or}
 use Rattle.std.specs.Int.{w16}
 use Rattle.std.proofs.Common.{of_z}
 use Rattle.sizes.specs.Sizes.{fifo_capacity}

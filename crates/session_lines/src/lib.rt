@@ -1,4 +1,6 @@
 // The lines of a session text: a head or a voice line, written and read.
+#![tactic(auto)]
+
 mod head;
 mod reading;
 mod states;
