@@ -1,5 +1,5 @@
 -- A fragment decoded into its half of the samples. Assumes nothing.
-use Rattle.std.proofs.Common.{◌≡◌, ℕ, ◌+◌, ◌-◌, ◌*◌, ◌/◌, ◌<◌, ◌≤◌, min, true, eqb, List, ◌++◌, length, take, drop, ℤ, sym, ap, ◌∙◌, subst, append_assoc, append-nil, le-add_right, mul-le-mul_right, mul-le-mul_left, le-div_iff_mul-le, div-mul-le_self, arith, length-drop, drop_of_length-le, length-take, eqb-true}
+use Rattle.std.proofs.Common.{◌≡◌, ℕ, ◌+◌, ◌-◌, ◌*◌, ◌/◌, ◌<◌, ◌≤◌, true, eqb, List, ◌++◌, length, take, drop, ℤ, sym, ap, ◌∙◌, subst, append_assoc, append-nil, le-add_right, mul-le-mul_right, mul-le-mul_left, le-div_iff_mul-le, div-mul-le_self, arith, length-drop, drop_of_length-le, length-take, eqb-true}
 use lib.Seq.{sets, sets-eq}
 use borrow.Rule.Slice.PartMut.{put_mid, Post-is}
 use borrow.Author.Tests.{eqb-false}

@@ -1,4 +1,6 @@
 // A stream voice: the check of its file, the cache of its decoded fragments, its accepted states and its tick.
+#![tactic(auto)]
+
 mod accepted;
 mod cache;
 mod file;
