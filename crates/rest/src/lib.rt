@@ -1,5 +1,7 @@
 // A core at rest: eight fresh voices, which give zeros and do not move. Elements at fixed places are read where they stand; for a
 // loop over its places an array is copied.
+#![tactic(auto)]
+
 mod fresh;
 
 ghost use Rattle.std.specs.Prelude.{◌≡◌};
