@@ -1,4 +1,6 @@
 // A stream writer: samples made into a mono SQV4 file of version 3, with one volume and one step index for all fragments.
+#![tactic(auto)]
+
 mod choice;
 mod fragments;
 mod packing;
