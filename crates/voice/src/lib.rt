@@ -1,4 +1,6 @@
 // One channel: what is written and read at its registers' offsets, its accepted states, and its ticks.
+#![tactic(auto)]
+
 mod accepted;
 mod fresh;
 mod reads;
