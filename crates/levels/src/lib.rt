@@ -1,4 +1,6 @@
 // How loud some frames are: of a side its largest value, the sum of its squares and how often it is over; of a voice its largest sample.
+#![tactic(auto)]
+
 ghost use Rattle.std.specs.Prelude.{◌≡◌, ◌^◌, ◌<◌, max, length, unsigned_abs};
 ghost use Rattle.levels.specs.Levels.{square_of, over_of, measure_of, sum_with, side_level, with_frames, voice_peak};
 
