@@ -1,4 +1,6 @@
 // WAV files: the 44 bytes ahead of the samples, and samples as bytes.
+#![tactic(auto)]
+
 mod header;
 mod samples;
 
