@@ -11,7 +11,6 @@ use Rattle.num.proofs.Choice.{never}
 use Rattle.version.specs.declared.SguVersion.{SguVersion}
 use Rattle.version.specs.declared.SguVersion.TheVariants.{V1, V2, V2_1, V3, V3_1}
 use Rattle.version.specs.Versions.{core_count}
-use Rattle.voices.specs.declared.Core.{Core}
 use Rattle.sides.specs.Sides.{added_to}
 use Rattle.sides.proofs.Frames.{added-silent}
 use Rattle.frames.specs.Turning.{Turns, frames}

@@ -1,4 +1,6 @@
 // The chip's sound: a voice's tick, frames of stems, and frames added to two sides.
+#![tactic(auto)]
+
 mod both;
 mod ended;
 mod mixing;
