@@ -1,4 +1,6 @@
 // The state of a player as text: the lines of its session, the head and one for each voice, and then the bytes of its RAM.
+#![tactic(auto)]
+
 mod finding;
 mod lines;
 mod refusing;
