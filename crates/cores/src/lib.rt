@@ -1,5 +1,7 @@
 // The numbers of the chip's two cores, each said once. A core's own are in crate `sizes`. The same numbers stand in
 // specs/Sizes.antt for the definitions.
+#![tactic(auto)]
+
 use sizes::{NUM_CHANNELS, QUEUE_BUFFER, STEMS};
 
 pub const NUM_CORES: usize = 2;

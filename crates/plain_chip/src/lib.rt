@@ -1,1 +1,2 @@
 // Document 01's plain chip. Definitions and proofs only.
+#![tactic(auto)]

@@ -1,1 +1,2 @@
 // A session's lines. Definitions and proofs only.
+#![tactic(auto)]

@@ -1,5 +1,7 @@
 // The chip's numbers, each said once, as s3w2.rs names them where it has a name for them. The same numbers stand in
 // specs/Sizes.antt for the definitions.
+#![tactic(auto)]
+
 pub const NUM_CHANNELS: usize = 8;
 
 pub const LAST_CHANNEL: usize = NUM_CHANNELS - 1;
