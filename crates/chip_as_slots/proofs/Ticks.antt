@@ -1,14 +1,14 @@
 -- A tick of a voice where it stands in the core is a tick of that voice of the world. Assumes nothing.
 use mathlib.Core.Path.{◌≡◌, refl, sym, ap, ◌∙◌}
-use mathlib.Core.Bool.{Bool, true, false, cond}
+use mathlib.Core.Bool.{true, false}
 use mathlib.Core.List.{List}
-use Prim.Native.Nat.{ℕ, ◌+◌, ◌*◌, ◌%◌, ◌<◌}
+use Prim.Native.Nat.{ℕ, ◌*◌, ◌%◌, ◌<◌}
 use native.Mathlib.Omega.{arith}
-use lib.Dec.{eqb, leb}
-use lib.IntN.{ℤ, pos}
+use lib.Dec.{eqb}
+use lib.IntN.{ℤ}
 use lib.ListN.{length, get_or, set}
 use lib.Seq.{sets, set-get_or}
-use borrow.Author.Tests.{eqb-true, le-leb}
+use borrow.Author.Tests.{eqb-true}
 use Rattle.sizes.specs.Sizes.{fifo_capacity, num_channels}
 use Rattle.num.specs.Lists.{part}
 use Rattle.num.proofs.Choice.{cond-by}
@@ -24,17 +24,16 @@ use Rattle.ticks.specs.declared.Sides.{Sides}
 use Rattle.ticks.specs.declared.Target.{Target}
 use Rattle.ticks.specs.declared.Sound.{Sound}
 use Rattle.ticks.specs.declared.QueueSound.{QueueSound}
-use Rattle.voice.specs.Sounding.{kind_of, play_of, after_sound, after_queue, after_stream}
-use Rattle.voice.specs.Streaming.{Lent, lent, placed_at, stream_ticks, stream_ticks_at}
+use Rattle.voice.specs.Sounding.{kind_of, after_sound, after_queue, after_stream}
+use Rattle.voice.specs.Streaming.{Lent}
 use Rattle.voice.specs.declared.Channel.{Channel}
 use Rattle.voice.specs.declared.Kind.{Kind}
 use Rattle.voice.specs.declared.Kind.TheVariants.{Silent, Sqv4, FifoDac}
 use Rattle.voice.specs.declared.Kind.TheVariants as kinds
-use Rattle.voice.specs.declared.StreamSound.{StreamSound}
 use Rattle.voices.specs.Core.{no_channel, channel_at}
 use Rattle.voices.specs.Accepted.{SizedCore}
 use Rattle.voices.specs.declared.Core.{Core}
-use Rattle.frames.specs.Ticking.{Voiced, voiced, modulator, stream_from, ticks_as, voice_tick}
+use Rattle.frames.specs.Ticking.{Voiced, voiced, modulator, ticks_as, voice_tick}
 use Rattle.frame_reports.specs.Values.{value_as, tick_value}
 use Rattle.frames.proofs.Parts.{part-back}
 use Rattle.frame_reports.proofs.Heard.{stream-here}
