@@ -1,5 +1,7 @@
 // The session's calls on a chip: a head or a voice line written or read. Refusals come in the order of
 // docs/SPECIFICATION.md, section 12: RAM length, queue buffer, state, then the text; then what a well-formed line may not say here.
+#![tactic(auto)]
+
 mod answers;
 mod heads;
 mod reading;
