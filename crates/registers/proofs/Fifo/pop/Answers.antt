@@ -30,6 +30,6 @@ returns-clause-result c =
     let a = c.args in
     take-is a.self a.queue.now a.frequency _ c.if-count-eq0.false
     (elim c.if-head-queue.branch [
-      then-head-queue w ↦ w.sample-is ∙ to_z-of_z {w = w16} {z = get_or a.queue.now (bit_and a.self.head 2047) (pos 0)} (sfits_of w.sample-1.given)
+      | then-head-queue w ↦ w.sample-is ∙ to_z-of_z {w = w16} {z = get_or a.queue.now (bit_and a.self.head 2047) (pos 0)} (sfits_of w.sample-1.given)
       | else-head-queue w ↦ w.sample-is ∙ sym (get_or-eq_default a.queue.now (pos 0) w.if-head-queue.false)
     ])

@@ -27,7 +27,7 @@ returns-after-at-queue c =
     let place = bit_and (bit_and a.self.head 2047 + a.self.count) 2047 in (
       simp (lt-ltb _ _ n),
       elim c.if-at-queue.branch [
-        then-at-queue w ↦ w.queue-is ∙ rw (to_z-of_z c.ranges.sample) (put_is a.self a.queue.now a.sample n)
+        | then-at-queue w ↦ w.queue-is ∙ rw (to_z-of_z c.ranges.sample) (put_is a.self a.queue.now a.sample n)
         | else-at-queue w ↦ w.queue-is ∙ sym (set_out a.queue.now place a.sample w.if-at-queue.false) ∙ put_is a.self a.queue.now a.sample n
       ],
     )

@@ -30,7 +30,7 @@ pub returns-clause-result : goal.returns-clause-result
 returns-clause-result c =
     let a = c.args in
     elim c.if-sub-eq0.branch [
-      then-sub-eq0 w ↦ first-tick a.self c.if-sub-eq0.f a.queue.now a.frequency w.if-sub-eq0.true (w.f-is ∙ w.advance-f.ensures.result)
+      | then-sub-eq0 w ↦ first-tick a.self c.if-sub-eq0.f a.queue.now a.frequency w.if-sub-eq0.true (w.f-is ∙ w.advance-f.ensures.result)
       | else-sub-eq0 w ↦ other-tick a.self c.if-sub-eq0.f a.queue.now a.frequency w.if-sub-eq0.false w.f-is
     ]
 
