@@ -1,11 +1,15 @@
-# Whether a program is built of the sources as they stand, and building it. A program is proved and built by `rt check`, which is not made
-# to run twice at once in a folder: the lock on the folder bin/ sees to that, and goes when its holders go.
+# Whether a program is built of the sources as they stand, and building it. `rt lib` proves a library and builds it for the crates above it,
+# `rt run` proves, builds and runs a program, each in its crate's folder, from the bottom up. One run at a time builds: the lock on the folder
+# bin/ sees to that, and goes when its holders go.
 #
-# target/launch/CRATE holds the hash of the sources that target/bin/CRATE was last known to be built of, target/launch/build-*.log what
-# rt said. A source that is only touched has the same hash.
+# bin/out/CRATE is a program as it was last built, bin/out/CRATE.of the hash of the sources that a program or a library was last built of,
+# bin/out/build-*.log what rt said. What rt itself makes lies in crates/CRATE/out/, from which `rt ci` takes the programs away, so they are
+# copied. A source that is only touched has the same hash.
 
-launched=$root/target/launch
-binary=$root/target/bin/$crate
+launched=$root/bin/out
+binary=$launched/$crate
+
+is_program() { [ -f "$root/crates/$1/src/main.rt" ]; }
 
 # The programs that have a command in bin/.
 programs() {
@@ -13,11 +17,11 @@ programs() {
     for file in "$root"/bin/*; do
         name=${file##*/}
         name=${name//-/_}
-        [ ! -f "$root/crates/$name/src/main.rt" ] || printf '%s\n' "$name"
+        ! is_program "$name" || printf '%s\n' "$name"
     done
 }
 
-# The crates of this repository that the named ones need, and they.
+# The crates of this repository that the named ones need, and they; each behind all that it needs.
 needed() {
     WANTED="$*" awk '
         { sub(/#.*/, ""); at = index($0, ":"); if (!at) next
@@ -32,97 +36,126 @@ needed() {
         END { n = split(ENVIRON["WANTED"], wanted, " "); for (k = 1; k <= n; k++) take(wanted[k]) }' "$root/crates.txt"
 }
 
-# The folders of the sources of a program.
-source_folders() { needed "$1" | sed "s|^|crates/|"; }
+# The hash of each crate's own sources, as far as it was asked for.
+declare -A own_hash=()
 
-# The hash of a program's sources.
-sources_hash() {
-    (
-        cd "$root" || exit
-        {
-            needed "$1"
-            source_folders "$1" | tr '\n' '\0' | xargs -0 sh -c 'find "$@" -name must-fail -prune -o -type f -print0' sh |
-                LC_ALL=C sort -z | xargs -0 sha256sum
-        } | sha256sum | cut -d ' ' -f 1
-    )
+# Sets `hash` to that of the sources of a crate and of all that it needs.
+hash_sources() { # CRATE
+    local name names lines=''
+    mapfile -t names < <(needed "$1")
+    for name in "${names[@]}"; do
+        [ -n "${own_hash[$name]-}" ] || own_hash[$name]=$(
+            cd "$root" && find "crates/$name" -regex 'crates/[^/]*/\(src\|specs\|proofs\)/.*' -type f -print0 |
+                LC_ALL=C sort -z | xargs -0 -r sha256sum | sha256sum
+        )
+        lines+="$name ${own_hash[$name]}"$'\n'
+    done
+    hash=$(sha256sum <<< "$lines")
+    hash=${hash%% *}
 }
 
 # Whether a source of a program, or the list of crates, has changed its place or content since a file was written.
 changed_since() { # CRATE FILE
     local folders
-    mapfile -t folders < <(source_folders "$1")
-    [ -n "$(cd "$root" && find crates.txt "${folders[@]}" -newercm "$2" -print -quit 2>&1)" ]
+    mapfile -t folders < <(needed "$1" | sed 's|^|crates/|')
+    [ -n "$(cd "$root" && find crates.txt "${folders[@]}" -regex 'crates/[^/]*/\(out\|must-fail\)' -prune -o -newercm "$2" -print -quit 2>&1)" ]
 }
 
 # Whether the binary is there, and is of the sources as they stand.
 is_current() {
-    [ -x "$binary" ] && [ -f "$launched/$crate" ] || return 1
-    changed_since "$crate" "$launched/$crate" || return 0
-    [ "$(sources_hash "$crate")" = "$(cat "$launched/$crate")" ] || return 1
-    touch "$launched/$crate" 2>/dev/null
+    local hash
+    [ -x "$binary" ] && [ -f "$binary.of" ] || return 1
+    changed_since "$crate" "$binary.of" || return 0
+    own_hash=()
+    hash_sources "$crate"
+    [ "$hash" = "$(cat "$binary.of")" ] || return 1
+    touch "$binary.of" 2>/dev/null
     return 0
 }
 
-# Without the toolchain a binary that is there is run; whether it is of these sources is said where that is not known.
+# Without the toolchain a binary that is there is run: that of bin/out/, or else that which rt left.
 without_toolchain() {
+    [ -x "$binary" ] || binary=$root/crates/$crate/out/$crate
     [ -x "$binary" ] || cannot "it is not built, and rt, the command of the Rattle toolchain, which proves and builds it, is not in PATH;" \
         "see 'What you need' in $root/README.md"
-    if [ -f "$launched/$crate" ] || [ ! -f "$root/target/stamp/$crate" ] || changed_since "$crate" "$root/target/stamp/$crate"; then
-        say "the sources in $root are not known to be those of $binary, and rt, which could build it anew, is not in PATH; it is run as it is"
-    fi
+    say "the sources in $root are not known to be those of $binary, and rt, which could build it anew, is not in PATH; it is run as it is"
 }
 
-# Reads what rt prints and says each crate as it is proved.
-told_by_rt() { # COUNT
-    local line crate rest at=0
-    while IFS= read -r line; do
-        case $line in
-        'rt: '*' proved ('*)
-            at=$((at + 1)) crate=${line#rt: } crate=${crate%% *} rest=${line##*(}
-            [ "$rest" = 'unchanged since it was last proved)' ] || say "$at of $1: $crate, ${rest%)}"
-            ;;
-        'rt: '*' NOT PROVED'*)
-            at=$((at + 1)) rest=${line#rt: }
-            say "$at of $1: $rest"
-            ;;
-        'rt: '*' FAILED '*) say "${line#rt: }" ;;
-        esac
-    done
-}
-
-# Whether every crate was proved at some time.
-all_stamped() {
+# Whether every library was built here at some time.
+all_known() {
     local name
-    for name in "$@"; do [ -f "$root/target/stamp/$name" ] || return 1; done
+    for name in "$@"; do is_program "$name" || [ -f "$launched/$name.of" ] || return 1; done
+}
+
+# Whether one of the crates that a crate needs is among those of which `failed` tells.
+needs_failed() { # CRATE
+    local name
+    for name in $(needed "$1"); do case " $failed " in *" $name "*) return 0 ;; esac; done
+    return 1
+}
+
+# Whether a crate is built of the sources whose hash is given.
+is_kept() { # CRATE HASH
+    if is_program "$1"; then [ -x "$launched/$1" ]; else [ -d "$root/crates/$1/out/rlib" ]; fi &&
+        [ "$2" = "$(cat "$launched/$1.of" 2>/dev/null)" ]
+}
+
+# Has rt prove and build one crate; what it says goes to the log. A program has an empty input then, and its status says nothing: rt says
+# that it runs it once it is built.
+by_rt() { # CRATE
+    local part=$log.part status
+    if is_program "$1"; then
+        (cd "$root/crates/$1" && exec rt run < /dev/null 2>&1 > /dev/null) > "$part"
+        status=$?
+        if grep -q "^rt: running out/$1;" "$part"; then
+            cp -f "$root/crates/$1/out/$1" "$launched/$1.new" && mv -f "$launched/$1.new" "$launched/$1"
+            status=$?
+        else
+            [ $status -ne 0 ] || status=1
+        fi
+    else
+        (cd "$root/crates/$1" && exec rt lib < /dev/null) > "$part" 2>&1
+        status=$?
+    fi
+    proved=no
+    ! grep -q '^logic=proved' "$part" || proved=yes
+    { printf '== %s\n' "$1"; cat "$part"; } >> "$log"
+    rm -f "$part"
+    return $status
 }
 
 # Proves and builds all programs that have a command. Sources that change while they are proved are not those of the binary, so their hash
 # is taken first.
 build() {
-    local list crates log status name hash=()
+    local list crates log status name hash proved began at=0 failed=''
     mapfile -t list < <(programs)
     mapfile -t crates < <(needed "${list[@]}")
     log=$launched/build-$(date +%Y%m%d-%H%M%S)-$$.log
-    mkdir -p "$launched" 2>/dev/null && : 2>/dev/null > "$log" || cannot "it has to be built first, and $root/target cannot be written"
-    if [ ! -x "$binary" ] || ! all_stamped "${crates[@]}"; then
-        say "it is proved and built first, with all programs of $root/bin: ${#crates[@]} crates, some minutes"
-    elif [ -f "$launched/$crate" ]; then
+    mkdir -p "$launched" 2>/dev/null && : 2>/dev/null > "$log" || cannot "it has to be built first, and $launched cannot be written"
+    if [ ! -x "$binary" ] || ! all_known "${crates[@]}"; then
+        say "it is proved and built first, with all programs of $root/bin: ${#crates[@]} crates, which takes a while"
+    elif [ -f "$binary.of" ]; then
         say "its sources have changed; what has changed is proved and built first"
     fi
-    for name in "${list[@]}"; do hash+=("$(sources_hash "$name")"); done
-    # a build that was broken off can leave a library that was not proved
-    for name in "${crates[@]}"; do [ -f "$root/target/stamp/$name" ] || rm -rf "$root/target/rlib/$name.rlib"; done
-    (cd "$root" && exec rt check "${list[@]}") 2>&1 | tee "$log" | told_by_rt ${#crates[@]}
-    status=${PIPESTATUS[0]}
-    for name in "${!list[@]}"; do
-        if grep -q -e "^rt: ${list[name]} proved (unchanged" -e "^rt: ${list[name]} ran[ ,]" "$log"; then
-            printf '%s\n' "${hash[name]}" > "$launched/${list[name]}"
+    own_hash=()
+    for name in "${crates[@]}"; do hash_sources "$name"; done
+    for name in "${crates[@]}"; do
+        at=$((at + 1)) began=$SECONDS
+        ! needs_failed "$name" || { rm -f "$launched/$name.of"; continue; }
+        hash_sources "$name"
+        ! is_kept "$name" "$hash" || continue
+        if by_rt "$name"; then
+            printf '%s\n' "$hash" > "$launched/$name.of"
+            [ $proved = no ] || say "$at of ${#crates[@]}: $name, $((SECONDS - began)) s"
         else
-            rm -f "$launched/${list[name]}"
+            status=$?
+            rm -f "$launched/$name.of"
+            failed+=" $name"
+            say "$at of ${#crates[@]}: $name NOT PROVED (rt ended with status $status)"
         fi
     done
-    [ -f "$launched/$crate" ] && [ -x "$binary" ] || cannot "it could not be built (rt ended with status $status); what rt said is in $log"
-    [ "$status" -eq 0 ] || say "it is built, but not all programs are; what rt said is in $log"
+    [ -f "$binary.of" ] && [ -x "$binary" ] || cannot "it could not be built; what rt said is in $log"
+    [ -z "$failed" ] || say "it is built, but not all programs are; what rt said is in $log"
 }
 
 # Builds the program where that is needed, one run at a time.

@@ -128,11 +128,12 @@ picture() {
     if is_file_place; then place "$spool/out" "$target"; else cat "$spool/out" >&3 || cannot "the output cannot be written"; fi
 }
 
+# With --live a log that comes from a pipe is not waited for, so that its sound is heard as it comes.
 sound() {
     case $crate:$target in
-    s3w2_stems:-) one_file "$binary" ;;
+    s3w2_stems:-) one_file "$binary" --live ;;
     s3w2_stems:*) channel_files ;;
-    s3w2_wav:*) one_file "$binary" ;;
+    s3w2_wav:*) one_file "$binary" --live ;;
     s3w2_levels:*) picture ;;
     esac
 }
