@@ -1,5 +1,5 @@
-// The port's side of compare_notes: note,semitones,frequency for each of the 65,536 pairs, by the proved function of the library that
-// `rt staticlib notes` makes.
+// The port's side of compare_notes: note,semitones,frequency for each of the 65,536 pairs, by the proved function of the static
+// library that `rt lib` makes of crate notes.
 
 #[link(name = "notes", kind = "static")]
 unsafe extern "C" {
