@@ -1,4 +1,4 @@
-# Running a program, and its status. A proved program has none of its own, but closes what it prints with a line that tells how it ended.
+# Running a program, and its status. A program has none of its own, but closes what it prints with a line that tells how it ended.
 # What it prints goes on byte by byte through tee, of which one copy is looked at for that line.
 
 # The FILEs can be read.
