@@ -1,15 +1,13 @@
 -- A line of a timed log, and what stands in an input. Assumes nothing.
 use mathlib.Core.Path.{◌≡◌, refl, sym, ap, ◌∙◌, subst}
 use mathlib.Core.Bool.{false}
-use mathlib.Core.List.{List, [], ◌∷◌}
+use mathlib.Core.List.{List}
 use Prim.Native.Nat.{ℕ, ◌+◌, ◌-◌, ◌≤◌, ◌<◌}
 use native.Mathlib.Omega.{arith}
 use lib.Dec.{eqb, leb, ltb}
 use lib.ListN.{length, get_or, drop, length-drop, drop_of_length-le}
 use borrow.Author.Tests.{eq-eqb, ne_eqb, eqb-true, le-leb, lt-leb, leb-true, leb-false, le-ltb, lt-ltb, ltb-false}
 use Rattle.num.proofs.Choice.{cond-by}
-use types.Run.{OneOf, miss}
-use denote.Enum.Declared.{tag_of}
 use Rattle.decimal.specs.declared.TakenNatural.{TakenNatural}
 use Rattle.decimal.specs.declared.TakenNatural.TheVariants.{Natural, NoNatural}
 use Rattle.decimal.specs.Read.{natural_at}
@@ -18,21 +16,21 @@ use Rattle.log_lines.specs.declared.Line.TheVariants as plain
 use Rattle.log_lines.specs.Lines.{parsed_line, is_bad}
 use Rattle.log_lines.proofs.Commas.{comma-inside}
 use Rattle.log_player.specs.Steps.{first_line}
-use Rattle.timed_log.specs.contracts.TimedLine.{the_type}
 use Rattle.timed_log.specs.declared.TimedLine.{TimedLine}
 use Rattle.timed_log.specs.declared.TimedLine.TheVariants.{Due, Malformed, Unmapped, Late, Crowded}
 use Rattle.timed_log.specs.declared.Clockwork.{Clockwork}
 use Rattle.timed_log.specs.declared.Ahead.TheVariants as ahead
 use Rattle.timed_log.specs.Lines.{frame_most, stamp_most, longest, stamped_line, due_behind, due_of, bad_number, due_already, judged, placed, next_due}
 
-abbrev pub not_due : List ℕ
-not_due = 1 ∷ 2 ∷ 3 ∷ 4 ∷ []
+-- a line that is not due
+abbrev pub NotDue : TimedLine → Type 0
+NotDue line = (stamp from : ℕ) → line ≡ Due stamp from → ⊥
 
 -- ---- a line behind others
 module _ (k : Clockwork) where
-  pub judged-bad : (line : TimedLine) → OneOf not_due (tag_of the_type line) → line ≡ judged k line
+  pub judged-bad : (line : TimedLine) → NotDue line → line ≡ judged k line
   unfolding judged
-  judged-bad (Due stamp from) t = absurd (miss not_due 0 tt t)
+  judged-bad (Due stamp from) t = absurd (t stamp from refl)
   judged-bad Malformed t = refl
   judged-bad Unmapped t = refl
   judged-bad Late t = refl
@@ -56,8 +54,8 @@ module _ (k : Clockwork) where
     judged-first h e = rw (le-ltb stamp k.frames h, ne_eqb stamp k.frames e)
 
 -- ---- what is due stands in its line
-pub placed-bad : (at count : ℕ) (line : TimedLine) → OneOf not_due (tag_of the_type line) → ahead.Bad (bad_number line) ≡ placed at count line
-placed-bad at count (Due stamp from) t = absurd (miss not_due 0 tt t)
+pub placed-bad : (at count : ℕ) (line : TimedLine) → NotDue line → ahead.Bad (bad_number line) ≡ placed at count line
+placed-bad at count (Due stamp from) t = absurd (t stamp from refl)
 placed-bad at count Malformed t = refl
 placed-bad at count Unmapped t = refl
 placed-bad at count Late t = refl

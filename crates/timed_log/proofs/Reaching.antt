@@ -9,13 +9,10 @@ use lib.Dec.{eqb, leb, ltb}
 use lib.ListN.{length, drop, length-append}
 use lib.Seq.{sets}
 use borrow.Author.Tests.{lt-ltb, le-ltb, ltb-false, lt-leb}
-use types.Run.{OneOf, miss}
-use denote.Enum.Declared.{tag_of}
 use Rattle.num.specs.Lists.{part}
 use Rattle.num.proofs.Choice.{cond-by}
 use Rattle.decimal.specs.Written.{Put, decimal}
 use Rattle.decimal.proofs.Writing.{width-below, put-append, put-none}
-use Rattle.timed_log.specs.contracts.Ahead.{the_type}
 use Rattle.timed_log.specs.declared.Clockwork.{Clockwork}
 use Rattle.timed_log.specs.declared.Unrolled.{Unrolled}
 use Rattle.timed_log.specs.declared.Ahead.{Ahead}
@@ -38,6 +35,10 @@ clock-some n = omega arith
 gap_length : (n : ℕ) → n ≤ clock_most → length (gap_text n) ≤ 7
 unfolding gap_text
 gap_length n h = cond-by (λ (t : List ℕ). length t ≤ 7) (eqb n 0) _ _ (λ e. omega arith) (λ e. clock-length n h)
+
+-- no line stands there
+abbrev pub NoLine : Ahead → Type 0
+NoLine a = (stamp from to : ℕ) → a ≡ Line stamp from to → ⊥
 
 module _ (room : ℕ) (input : List ℕ) where
   -- what a line adds
@@ -144,12 +145,9 @@ module _ (room : ℕ) (input : List ℕ) where
       none zero = unroll-zero s
       none (suc n) = unroll-none n s h
 
-  abbrev no_line : List ℕ
-  no_line = 1 ∷ 2 ∷ []
-
-  stays : (n : ℕ) (s : Reach) (a : Ahead) → OneOf no_line (tag_of the_type a) → ahead_of input s ≡ a → unroll_on room input (suc n) s ≡ s
+  stays : (n : ℕ) (s : Reach) (a : Ahead) → NoLine a → ahead_of input s ≡ a → unroll_on room input (suc n) s ≡ s
   unfolding unroll_on
-  stays n s (Line stamp from to) t e = absurd (miss no_line 0 tt t)
+  stays n s (Line stamp from to) t e = absurd (t stamp from to refl)
   stays n s Rest t e = rw e (go (has_place room (length s.text) s.number))
     where
       go : (b : Bool) → cond b s s ≡ s
@@ -161,7 +159,7 @@ module _ (room : ℕ) (input : List ℕ) where
       go true = refl
       go false = refl
 
-  pub unroll-stays : (s : Reach) (a : Ahead) → OneOf no_line (tag_of the_type a) → ahead_of input s ≡ a → unroll_from room input s ≡ s
+  pub unroll-stays : (s : Reach) (a : Ahead) → NoLine a → ahead_of input s ≡ a → unroll_from room input s ≡ s
   unfolding unroll_from
   unroll-stays s a t e = none room
     where
@@ -197,7 +195,7 @@ module _ (input : List ℕ) (run : Reach) (k : Clockwork) (line place end : ℕ)
   pub unrolling-full : has_place (length out) end line ≡ false → Promised run out mid (unrolled_as k place line end)
   unrolling-full e = unrolling-done (unroll-full (length out) input here (ap (λ (n : ℕ). has_place (length out) n line) (sym u.whole) ∙ e))
 
-  pub unrolling-stays : (a : Ahead) → OneOf (1 ∷ 2 ∷ []) (tag_of the_type a) → a ≡ next_due k (drop place input) place → Promised run out mid (unrolled_as k place line end)
+  pub unrolling-stays : (a : Ahead) → NoLine a → a ≡ next_due k (drop place input) place → Promised run out mid (unrolled_as k place line end)
   unrolling-stays a t e = unrolling-done (unroll-stays (length out) input here a t (sym e))
 
   -- and where it goes on

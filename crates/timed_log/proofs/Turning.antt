@@ -2,7 +2,7 @@
 use mathlib.Core.Path.{◌≡◌, refl, sym, ap, ◌∙◌, subst}
 use mathlib.Core.Bool.{Bool, true, false, cond}
 use mathlib.Core.List.{List, [], ◌∷◌}
-use Prim.Native.Nat.{ℕ, zero, ◌+◌, ◌-◌, ◌≤◌, ◌<◌, min}
+use Prim.Native.Nat.{ℕ, ◌+◌, ◌-◌, ◌≤◌, ◌<◌, min}
 use native.Mathlib.Omega.{arith}
 use lib.Dec.{eqb, ltb}
 use lib.IntN.{ℤ}
@@ -26,7 +26,7 @@ use Rattle.timed_log.specs.declared.TimedRan.{TimedRan}
 use Rattle.timed_log.specs.Lines.{next_due}
 use Rattle.timed_log.specs.Unrolled.{no_frames}
 use Rattle.timed_log.specs.Unrolls.{Reach, reach, unroll_from, unrolled_to}
-use Rattle.timed_log.specs.Turns.{Stand, stand, Turn, turn, left_of, goes_on, played_as, played_on, next_at, told_as, told, stands_at, written_out, turn_over, standing, timed_to, made_timed}
+use Rattle.timed_log.specs.Turns.{Stand, Turn, turn, left_of, goes_on, played_as, played_on, next_at, told_as, told, stands_at, written_out, turn_over, standing, timed_to, made_timed}
 use Rattle.timed_log.specs.Ends.{last_text, sounds_last, run_none, last_run, told_last, last_told}
 
 -- ---- what was written out is played

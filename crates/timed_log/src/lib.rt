@@ -1,5 +1,7 @@
 // A log with frame times: each line begins with the frame at which it is due. The times are written out as `C` lines into a lent buffer,
 // and what stands there is played as any log is.
+#![tactic(auto)]
+
 mod ends;
 mod lines;
 mod runs;

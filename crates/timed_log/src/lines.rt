@@ -60,6 +60,7 @@ impl TimedLine {
 
 impl Clockwork {
     // A line that is due behind the lines before it.
+    #[tactic(auto, unfolding(crate::specs::Lines::judged))]
     fn judged(self, line: TimedLine) -> TimedLine
         ensures { result ≡ judged self line }
     {

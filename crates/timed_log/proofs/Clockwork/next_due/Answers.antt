@@ -1,0 +1,69 @@
+use mathlib.Core.Path.{◌≡◌, sym, ap, ◌∙◌}
+use mathlib.Core.List.{List}
+use Prim.Native.Nat.{ℕ, ◌+◌, ◌≤◌, ◌<◌}
+use native.Mathlib.Omega.{arith}
+use lib.ListN.{length, drop}
+use Rattle.log_player.specs.Steps.{first_line}
+use Rattle.log_player.proofs.Stops.{line-part, stop-in}
+use Rattle.timed_log.specs.declared.Ahead.TheVariants.{Line, Bad}
+use Rattle.timed_log.specs.declared.Clockwork.{Clockwork}
+use Rattle.timed_log.specs.declared.TimedLine.{TimedLine}
+use Rattle.timed_log.specs.declared.TimedLine.TheVariants.{Due}
+use Rattle.timed_log.specs.Lines.{due_of, judged, placed, next_due}
+use Rattle.timed_log.proofs.Judging.{placed-bad, due-past, due-rest, due-long, due-line, due-is, taken_is}
+use Rattle.timed_log.proofs.Clockwork.next_due.Goals as goal
+
+-- a line that ends inside the input, judged
+module _ (k : Clockwork) (input : List ℕ) (from stop : ℕ) (s : stop ≡ from + length (first_line (drop from input))) (h : from < length input) (n : stop ≡ length input → ⊥) (found line : TimedLine) (d : found ≡ due_of (first_line (drop from input))) (j : line ≡ judged k found) where
+  -- the place of the line's end
+  inside : stop < length input
+  inside = less n (stop-in input from stop s h)
+    where
+      less : {a b : ℕ} → (a ≡ b → ⊥) → a ≤ b → a < b
+      less n h = omega arith
+
+  is : line ≡ judged k (due_of (first_line (drop from input)))
+  is = j ∙ ap (judged k) d
+
+  whole : placed from (length (first_line (drop from input))) line ≡ next_due k (drop from input) from
+  whole = ap (placed _ _) is ∙ due-line k input from stop s h n
+
+  -- what is due begins in it
+  within : (stamp begin : ℕ) → line ≡ Due stamp begin → from + begin ≤ length input
+  within stamp begin e =
+      let text : List ℕ = first_line (drop from input) in
+      let t = taken_is k _ _ (due_of text) (sym is ∙ e) in
+      omega (arith, (due-is text _ _ t.due).within, inside, s)
+
+pub returns-then-input-from : goal.returns-then-input-from
+returns-then-input-from c = due-past c.args.self c.args.input.now c.args.from c.if-input-from.true
+
+pub returns-then-stop-from-le-LONGEST : goal.returns-then-stop-from-le-LONGEST
+returns-then-stop-from-le-LONGEST c = due-rest c.args.self c.args.input.now c.args.from _ c.line_end-stop.ensures c.if-input-from.false c.if-stop-input.true c.if-stop-from-le-LONGEST.true
+
+pub returns-then-stop-input : goal.returns-then-stop-input
+returns-then-stop-input c = due-long c.args.self c.args.input.now c.args.from _ c.line_end-stop.ensures c.if-input-from.false c.if-stop-input.true c.if-stop-from-le-LONGEST.false
+
+pub slice_bounds-due-end : goal.slice_bounds-due-end
+slice_bounds-due-end c = stop-in c.args.input.now c.args.from _ c.line_end-stop.ensures c.if-input-from.false
+
+pub returns-in_default : goal.returns-in_default
+returns-in_default c =
+    let d = c.due.ensures ∙ ap due_of (line-part c.args.input.now c.args.from _ c.line_end-stop.ensures) in
+    ap Bad c.number.ensures ∙ placed-bad c.args.from (length (first_line (drop c.args.from c.args.input.now))) c.judged-line.result c.in_default.not-Due
+    ∙ whole c.args.self c.args.input.now c.args.from _ c.line_end-stop.ensures c.if-input-from.false c.if-stop-input.false _ _ d c.judged-line.ensures
+
+pub overflow_add-result : goal.overflow_add-result
+overflow_add-result c =
+    let d = c.due.ensures ∙ ap due_of (line-part c.args.input.now c.args.from _ c.line_end-stop.ensures) in
+    let h = within c.args.self c.args.input.now c.args.from _ c.line_end-stop.ensures c.if-input-from.false c.if-stop-input.false _ _ d c.judged-line.ensures _ _ c.in-Due.is in
+    omega (arith, h)
+
+pub returns : goal.returns
+returns c =
+    let stop = c.line_end-stop.ensures in
+    let d = c.due.ensures ∙ ap due_of (line-part c.args.input.now c.args.from _ stop) in
+    let to : c.line_end-stop.result + 1 ≡ c.args.from + length (first_line (drop c.args.from c.args.input.now)) + 1 = omega arith in
+    ap (λ (i : ℕ). Line c.in-Due.stamp (c.args.from + c.in-Due.begin) i) to
+    ∙ sym (ap (placed _ _) c.in-Due.is)
+    ∙ whole c.args.self c.args.input.now c.args.from _ stop c.if-input-from.false c.if-stop-input.false _ _ d c.judged-line.ensures
