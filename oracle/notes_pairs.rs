@@ -1,5 +1,5 @@
 // The port's side of compare_notes: note,semitones,frequency for each of the 65,536 pairs, by the proved function of the static
-// library that `rt lib` makes of crate notes.
+// library notes_c, which `rt lib` makes.
 
 #[link(name = "notes", kind = "static")]
 unsafe extern "C" {

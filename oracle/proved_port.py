@@ -24,15 +24,14 @@ def program(name, top=TOP, **words):
 
 
 def static_library(name, room):
-    """The folder of a library's archive. crates.txt has no static library, so it is made in a folder outside the repository."""
-    copy(room)
-    crates = room / "crates.txt"
-    crates.write_text(re.sub(rf"^{name}:", f"{name} staticlib:", crates.read_text(), flags=re.M))
-    folder = room / "crates" / name
+    """The folder of a library's archive: what `rt lib` makes of the static library NAME_c, under the name by which NAME is linked."""
+    folder = TOP / "crates" / f"{name}_c"
     run = subprocess.run(["rt", "lib"], cwd=folder, stdout=subprocess.PIPE, stderr=subprocess.STDOUT, text=True, errors="replace")
     if run.returncode != 0:
-        stop(run.stdout, room)
-    return folder / "out"
+        stop(run.stdout, TOP)
+    room.mkdir(parents=True, exist_ok=True)
+    shutil.copy(folder / "out" / f"lib{name}_c.a", room / f"lib{name}.a")
+    return room
 
 
 def copy(room):

@@ -17,8 +17,7 @@ fn sum_at(note: u8, semitones: i8) -> usize
 }
 
 // The frequency of a note, semitones up or down: 440 at note 69, twice that 12 semitones above.
-#[unsafe(no_mangle)]
-pub extern "C" fn frequency(note: u8, semitones: i8) -> u16
+pub fn frequency(note: u8, semitones: i8) -> u16
     ensures { NearestPitch (sum_at note semitones) result }
 {
     let at = sum_at(note, semitones);
