@@ -25,7 +25,7 @@ programs() {
 needed() {
     WANTED="$*" awk '
         { sub(/#.*/, ""); at = index($0, ":"); if (!at) next
-          name = substr($0, 1, at - 1); gsub(/[ \t]/, "", name); uses[name] = substr($0, at + 1) }
+          split(substr($0, 1, at - 1), words, " "); uses[words[1]] = substr($0, at + 1) }
         function take(name,    list, n, k) {
             if (!(name in uses) || name in taken) return
             taken[name] = 1
