@@ -4,7 +4,6 @@ use Rattle.version.specs.declared.SguVersion.{SguVersion}
 use Rattle.plain_chip.specs.Voices.{PlainVoice}
 use Rattle.plain_chip.specs.Models.{Model}
 use Rattle.pair_chip.specs.Pairs.{Pair, core_of}
-use Rattle.call_lists.specs.Runs.{after}
 use Rattle.call_lists.specs.Texts.{Texts}
 use Rattle.call_lists.specs.Calls.{Call, reset, set_version, reset_channel, write_register, read_register, peek_register, write_channel_control, read_channel_control, write_channel_pcm_reg, read_channel_pcm_reg, write_channel_wavetable, read_channel_wavetable, wavetable_length, interpolates, write_pcm_ram, read_pcm_ram, generate_sample, clock, clock_mixed, clock_mixed_into, clock_mixed_into_i32, write_head, read_head, write_voice, read_voice, read_stored_voice}
 
