@@ -26,7 +26,7 @@ use Rattle.s3w2.specs.declared.Called.{Called}
 use Rattle.s3w2.specs.declared.Chip.{Chip}
 use Rattle.s3w2.specs.Answers.{is_done, answered}
 use Rattle.s3w2.specs.Chips.{core_at}
-use Rattle.chip_lists.specs.Plays.{Playing, playing, play_refusal, all_played}
+use Rattle.chip_lists.specs.Plays.{Playing, playing, all_played}
 use Rattle.s3w2.specs.Refusals.{accepts_chip, refusal}
 use Rattle.chip_lists.specs.Second.{is_alone, Lends, Leaves, Says}
 use Rattle.s3w2.proofs.Fits.{core-accepts}

@@ -14,7 +14,6 @@ use Rattle.num.specs.Lists.{part}
 use Rattle.tone.specs.Pcm.{is_ram_length}
 use Rattle.voices.proofs.Parts.{put-part}
 use Rattle.frames.specs.Listing.{asked_of, lent_list, clocked_as, clocked_by, frames_asked, call_count}
-use Rattle.frames.specs.Turning.{frames}
 use Rattle.frames.proofs.Counts.{zero-add, frames-more, frames-within}
 use Rattle.frames.proofs.Parts.{part_length}
 use Rattle.s3w2.specs.declared.Chip.{Chip}

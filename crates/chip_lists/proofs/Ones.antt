@@ -2,7 +2,7 @@
 use mathlib.Core.Path.{◌≡◌, refl, sym, ap, ◌∙◌, subst}
 use mathlib.Core.Bool.{true, cond}
 use mathlib.Core.List.{List, [], ◌∷◌, ◌++◌}
-use Prim.Native.Nat.{ℕ, ◌-◌}
+use Prim.Native.Nat.{ℕ}
 use native.Mathlib.Omega.{arith}
 use lib.Dec.{ltb}
 use lib.IntN.{ℤ}
@@ -18,7 +18,7 @@ use Rattle.voices.specs.declared.Core.{Core}
 use Rattle.frames.specs.declared.Asked.{Asked}
 use Rattle.frames.specs.declared.Asked.TheVariants as variants
 use Rattle.frames.specs.Listing.{asked_of, Listed, lent_list, call_as}
-use Rattle.frames.specs.Turning.{Turns, frames, no_turn}
+use Rattle.frames.specs.Turning.{Turns, no_turn}
 use Rattle.s3w2.specs.declared.Chip.{Chip}
 use Rattle.s3w2.specs.Chips.{core_at, no_core}
 use Rattle.chip_lists.specs.Plays.{Playing, playing, call_played, calls_played}

@@ -1,4 +1,6 @@
 // Lists of calls on a chip, one after the other, as the calls of `s3w2` would make them.
+#![tactic(auto)]
+
 ghost use Rattle.std.specs.Prelude.{◌≡◌, true, ◌*◌, pos, length, get_or, replicate, eqb};
 ghost use Rattle.sizes.specs.Sizes.{queue_buffer, stems_per_frame};
 ghost use Rattle.cores.specs.Sizes.{chip_queues};
