@@ -1,4 +1,6 @@
 // A log's sound: its lines as lists of calls, each list played by the chip at once, with the stems of its frames.
+#![tactic(auto)]
+
 mod gathering;
 mod playing;
 
