@@ -1,13 +1,11 @@
 -- A log that is read in parts: no run of it is refused, so that the runs and the closing line print the log. Assumes nothing.
-use mathlib.Core.Path.{◌≡◌, refl, sym, ap, ◌∙◌}
+use mathlib.Core.Path.{◌≡◌, ap}
 use mathlib.Core.List.{List, []}
 use Prim.Native.Nat.{ℕ, ◌+◌, ◌≤◌, ◌<◌}
 use lib.ListN.{length, get_or}
 use Rattle.s3w2.specs.declared.Answer.{Answer}
 use Rattle.s3w2.specs.Answers.{number_of}
-use Rattle.log_lines.specs.Lines.{parsed_line, is_bad}
 use Rattle.log_player.specs.Worlds.{World, fresh_world}
-use Rattle.log_player.specs.Applied.{after_line}
 use Rattle.log_player.specs.Logs.{log_text}
 use Rattle.log_player.specs.Runs.{refused_by}
 use Rattle.log_player.specs.Parts.{parts_printed, joined}
