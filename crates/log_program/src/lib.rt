@@ -1,4 +1,6 @@
 // The programs over a log. Here bytes are only read, moved and written; what is printed is log_player's and log_state's.
+#![tactic(auto)]
+
 mod loading;
 mod moving;
 mod playing;
@@ -26,47 +28,50 @@ pub(crate) struct Place {
     pub whole: bool,
 }
 
-fn with_buffers(program: Program, ram: &mut [u8], queues: &mut [i16]) {
+fn with_buffers(rt: &HostRuntime, program: Program, ram: &mut [u8], queues: &mut [i16]) {
     let mut input = io::large_buffer();
     // No multiple of 4,096 bytes: the two players on its two sides are copied to each other, which is slow at such a distance.
     let mut text = [0u8; 133120];
-    playing::play(program, &mut input, &mut text, ram, queues);
+    playing::play(rt, program, &mut input, &mut text, ram, queues);
 }
 
-fn with_queues(program: Program, queues: &mut [i16]) {
+fn with_queues(rt: &HostRuntime, program: Program, queues: &mut [i16]) {
     let mut ram = io::large_buffer();
-    with_buffers(program, &mut ram, queues);
+    with_buffers(rt, program, &mut ram, queues);
 }
 
-fn start(program: Program) {
+fn start(rt: &HostRuntime, program: Program) {
     let mut queues = [0i16; CHIP_QUEUES];
-    with_queues(program, &mut queues);
+    with_queues(rt, program, &mut queues);
 }
 
 // Plays the log on standard input and prints what it gives on standard output.
-pub fn play_log() {
-    start(Program {
+pub fn play_log(rt: &HostRuntime) {
+    let program = Program {
         loads: false,
         stored: false,
         saves: false,
-    });
+    };
+    start(rt, program);
 }
 
 // The same, and instead of the peaks the state in which the log leaves the player.
-pub fn save_log() {
-    start(Program {
+pub fn save_log(rt: &HostRuntime) {
+    let program = Program {
         loads: false,
         stored: false,
         saves: true,
-    });
+    };
+    start(rt, program);
 }
 
 // Reads such a state, and goes on with the log behind it; at its end it prints the peaks, or the state again. As a stored one
 // a state is read on a chip without a FIFO too that has something in its queues, and that is dropped.
-pub fn load_log(stored: bool, saves: bool) {
-    start(Program {
+pub fn load_log(rt: &HostRuntime, stored: bool, saves: bool) {
+    let program = Program {
         loads: true,
         stored,
         saves,
-    });
+    };
+    start(rt, program);
 }

@@ -44,9 +44,9 @@ impl Sought {
 }
 
 // Goes on with more input behind the bytes before `end`; where there is none, or no room for any, they are the line.
-fn extend(program: Program, from: usize, end: usize, input: &mut [u8]) -> Sought {
+fn extend(rt: &HostRuntime, program: Program, from: usize, end: usize, input: &mut [u8]) -> Sought {
     let kept = program::keep(&mut *input, from, end);
-    let read = read_behind(program, input, kept);
+    let read = read_behind(rt, program, input, kept);
     match read {
         Input::More(more) => Sought::at(0, more, true),
         Input::End => Sought::line(0, kept, kept),
@@ -55,22 +55,29 @@ fn extend(program: Program, from: usize, end: usize, input: &mut [u8]) -> Sought
 }
 
 // Looks once for line k.
-fn look(program: Program, k: usize, from: usize, filled: usize, input: &mut [u8]) -> Sought {
+fn look(
+    rt: &HostRuntime,
+    program: Program,
+    k: usize,
+    from: usize,
+    filled: usize,
+    input: &mut [u8],
+) -> Sought {
     let found = log_state::find(num::part(input, 0, filled), from, k);
     match found {
         Found::Line(behind) => Sought::line(from, behind, filled),
         Found::Sound(behind) => Sought::at(behind, filled, true),
-        Found::Open(end) => extend(program, from, end, input),
+        Found::Open(end) => extend(rt, program, from, end, input),
     }
 }
 
 // Looks for line k at a place, if the run goes on there.
-fn find(program: Program, k: usize, place: Place, input: &mut [u8]) -> Sought {
+fn find(rt: &HostRuntime, program: Program, k: usize, place: Place, input: &mut [u8]) -> Sought {
     let mut line = Sought::at(place.from, place.filled, place.going);
     let mut turns: u64 = 0xffff_ffff_ffff_ffff;
     while 0 < turns {
         if line.going {
-            line = look(program, k, line.from, line.filled, &mut *input);
+            line = look(rt, program, k, line.from, line.filled, &mut *input);
             turns -= 1;
         } else {
             turns = 0;
@@ -129,14 +136,14 @@ fn take(
 }
 
 // Reads on until the RAM, of which `have` bytes are there, is full: how many there are then.
-fn fill(program: Program, ram: &mut [u8], have: usize) -> Input {
+fn fill(rt: &HostRuntime, program: Program, ram: &mut [u8], have: usize) -> Input {
     let mut got = have;
     let mut turns = ram.len();
     while 0 < turns {
         if ram.len() <= got {
             return Input::More(got);
         }
-        let read = read_behind(program, &mut *ram, got);
+        let read = read_behind(rt, program, &mut *ram, got);
         let Input::More(more) = read else {
             return read;
         };
@@ -155,6 +162,7 @@ fn cut_short(program: Program, text: &mut [u8]) -> Place {
 
 // Reads the RAM behind the lines, if they could be read.
 fn load_ram(
+    rt: &HostRuntime,
     program: Program,
     place: Place,
     input: &[u8],
@@ -165,7 +173,7 @@ fn load_ram(
         return place;
     }
     let got = decimal::put_text(&mut *ram, 0, num::part(input, place.from, place.filled));
-    let read = fill(program, ram, got);
+    let read = fill(rt, program, ram, got);
     match read {
         Input::More(_) => {
             let from = num::least(place.from, input.len()) + got;
@@ -178,6 +186,7 @@ fn load_ram(
 
 // Reads what follows the lines: the RAM, and the log.
 fn play_behind(
+    rt: &HostRuntime,
     program: Program,
     player: Player,
     place: Place,
@@ -186,12 +195,13 @@ fn play_behind(
     ram: &mut [u8],
     queues: &mut [i16],
 ) {
-    let begin = load_ram(program, place, &*input, &mut *text, &mut *ram);
-    go_on(program, player, begin, input, text, ram, queues);
+    let begin = load_ram(rt, program, place, &*input, &mut *text, &mut *ram);
+    go_on(rt, program, player, begin, input, text, ram, queues);
 }
 
 // Reads a state into a fresh player, and goes on where that could be done.
 pub(crate) fn load_state(
+    rt: &HostRuntime,
     program: Program,
     fresh: Player,
     begin: Place,
@@ -204,12 +214,12 @@ pub(crate) fn load_state(
     let mut place = begin;
     let mut k = 0;
     while k < LINES {
-        let line = find(program, k, place, &mut *input);
+        let line = find(rt, program, k, place, &mut *input);
         let taken = take(program, player, k, line, &*input, &*ram, &mut *queues);
         let answer = taken.answer;
         player = taken.player;
         place = passed(program, k, line, answer, &mut *text);
         k += 1;
     }
-    play_behind(program, player, place, input, text, ram, queues);
+    play_behind(rt, program, player, place, input, text, ram, queues);
 }

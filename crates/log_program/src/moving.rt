@@ -1,7 +1,7 @@
 // What is said where standard input or standard output fails.
 use crate::Program;
 pub(crate) use program::Input;
-use program::say;
+use program::{STDOUT, say};
 use session::LineAnswer;
 
 pub(crate) fn complain(program: Program, reason: &[u8]) {
@@ -17,7 +17,7 @@ pub(crate) fn complain(program: Program, reason: &[u8]) {
 
 // Writes the text's bytes before `end` to standard output, and answers whether it could.
 pub(crate) fn written(program: Program, text: &[u8], end: usize) -> bool {
-    if io::write_all(libc::STDOUT_FILENO, num::part(text, 0, end)) {
+    if io::write_all(STDOUT, num::part(text, 0, end)) {
         return true;
     }
     complain(program, b"the output cannot be written\n");
@@ -31,8 +31,13 @@ pub(crate) fn write_refusal(program: Program, answer: LineAnswer, text: &mut [u8
 }
 
 // Reads behind the first `kept` bytes: how many bytes there are then. A buffer without room ends the input.
-pub(crate) fn read_behind(program: Program, input: &mut [u8], kept: usize) -> Input {
-    let read = program::read_behind(input, kept);
+pub(crate) fn read_behind(
+    rt: &HostRuntime,
+    program: Program,
+    input: &mut [u8],
+    kept: usize,
+) -> Input {
+    let read = program::read_behind(rt, input, kept);
     if let Input::Failed = read {
         complain(program, b"the input cannot be read\n");
     }

@@ -54,9 +54,16 @@ fn beginning(program: Program, answer: u8) -> Place {
 }
 
 // Goes on with more input, if there is any.
-fn refilled(program: Program, from: usize, filled: usize, number: u64, input: &mut [u8]) -> Place {
+fn refilled(
+    rt: &HostRuntime,
+    program: Program,
+    from: usize,
+    filled: usize,
+    number: u64,
+    input: &mut [u8],
+) -> Place {
     let kept = program::keep(&mut *input, from, filled);
-    let read = read_behind(program, input, kept);
+    let read = read_behind(rt, program, input, kept);
     match read {
         Input::More(more) => Place::at(0, more, number),
         Input::End => Place::ended(kept, number),
@@ -65,20 +72,27 @@ fn refilled(program: Program, from: usize, filled: usize, number: u64, input: &m
 }
 
 // Where a run goes on behind the lines that were played.
-fn behind(program: Program, ran: Ran, filled: usize, input: &mut [u8]) -> Place {
+fn behind(rt: &HostRuntime, program: Program, ran: Ran, filled: usize, input: &mut [u8]) -> Place {
     let next = ran.next;
     match next {
         Next::Line(_) => Place::at(ran.from, filled, ran.number),
-        Next::Rest => refilled(program, ran.from, filled, ran.number, input),
+        Next::Rest => refilled(rt, program, ran.from, filled, ran.number, input),
         Next::Bad(_) => Place::stopped(),
         Next::Refused(_) => refused(program),
     }
 }
 
 // The same, where what they print can be written.
-fn told(program: Program, ran: Ran, filled: usize, input: &mut [u8], text: &[u8]) -> Place {
+fn told(
+    rt: &HostRuntime,
+    program: Program,
+    ran: Ran,
+    filled: usize,
+    input: &mut [u8],
+    text: &[u8],
+) -> Place {
     if written(program, text, ran.end) {
-        return behind(program, ran, filled, input);
+        return behind(rt, program, ran, filled, input);
     }
     Place::stopped()
 }
@@ -130,6 +144,7 @@ fn end(
 
 // Plays the input from a place on, and writes what it prints.
 pub(crate) fn go_on(
+    rt: &HostRuntime,
     program: Program,
     first: Player,
     begin: Place,
@@ -145,7 +160,7 @@ pub(crate) fn go_on(
         if place.going {
             let ran = ran_on(player, place, &*input, &mut *text, &mut *ram, &mut *queues);
             player = ran.player;
-            place = told(program, ran, place.filled, &mut *input, &*text);
+            place = told(rt, program, ran, place.filled, &mut *input, &*text);
             turns -= 1;
         } else {
             turns = 0;
@@ -156,6 +171,7 @@ pub(crate) fn go_on(
 
 // Begins with the state that stands before the log, where a program reads one.
 fn begin(
+    rt: &HostRuntime,
     program: Program,
     player: Player,
     place: Place,
@@ -165,14 +181,15 @@ fn begin(
     queues: &mut [i16],
 ) {
     if program.loads {
-        load_state(program, player, place, input, text, ram, queues);
+        load_state(rt, program, player, place, input, text, ram, queues);
     } else {
-        go_on(program, player, place, input, text, ram, queues);
+        go_on(rt, program, player, place, input, text, ram, queues);
     }
 }
 
 // Plays the whole input.
 pub(crate) fn play(
+    rt: &HostRuntime,
     program: Program,
     input: &mut [u8],
     text: &mut [u8],
@@ -183,5 +200,5 @@ pub(crate) fn play(
     let player = made.player;
     let answer = made.answer;
     let place = beginning(program, answer.number());
-    begin(program, player, place, input, text, ram, queues);
+    begin(rt, program, player, place, input, text, ram, queues);
 }

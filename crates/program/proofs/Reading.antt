@@ -1,8 +1,8 @@
 -- A line found in what was read. Assumes nothing.
-use Rattle.std.proofs.Common.{◌≡◌, ℕ, ◌+◌, ◌<◌, ◌≤◌, min, Bool, true, ltb, List, length, get_or, take, sym, ap, ◌∙◌, arith, length-take, get_or-take, ltb-true}
+use Rattle.std.proofs.Common.{◌≡◌, ℕ, ◌+◌, ◌<◌, ◌≤◌, min, true, ltb, List, length, get_or, take, sym, ap, ◌∙◌, arith, length-take, get_or-take, ltb-true}
 use native.Mathlib.Decide.{dec_lt}
 use borrow.Rule.Slice.PartMut.{put_mid, take_put}
-use Rattle.program.specs.Reading.{Open, Closed, LineIn}
+use Rattle.program.specs.Reading.{Open, Closed}
 
 pub open_none : (text : List ℕ) (from i : ℕ) → i ≤ from → Open text from i
 open_none text from i h j f g e = absurd (omega arith)

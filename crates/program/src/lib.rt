@@ -1,12 +1,27 @@
-// What a program does with standard input and standard output: bytes read, moved and written, and what is said where that fails.
+// What a program does with standard input and standard output: bytes read, moved and written, and what is said where that fails;
+// files read or written again; and the words that it was started with.
+#![tactic(auto)]
+
 ghost use Rattle.std.specs.Prelude.{◌≡◌, ◌-◌, ◌≤◌, min, length, take, drop};
 ghost use Rattle.num.specs.Lists.{part};
 ghost use Rattle.program.specs.Places.{place_after};
 ghost use Rattle.program.specs.Reading.{Filled};
 
+mod again;
 mod lines;
+mod words;
 
+pub use again::{input_again, output_again};
 pub use lines::next_line;
+use std::io::Read;
+pub use words::{is_word, word_count};
+
+// The descriptors of standard input, standard output and standard error.
+pub const STDIN: i32 = 0;
+
+pub const STDOUT: i32 = 1;
+
+pub const STDERR: i32 = 2;
 
 // What a read finds: so many bytes stand in the buffer then; the input has ended; it cannot be read.
 #[derive(Clone, Copy)]
@@ -28,7 +43,7 @@ pub struct BufferLine {
 
 // Writes a text to standard error.
 pub fn say(text: &[u8]) {
-    io::write_all(libc::STDERR_FILENO, text);
+    io::write_all(STDERR, text);
 }
 
 // Writes the text's bytes before `at` to standard output if fewer than `room` are left behind them, and answers where to go on.
@@ -40,13 +55,13 @@ pub fn flush(text: &[u8], at: usize, room: usize) -> usize
         if room <= text.len() - at {
             return at;
         }
-        io::write_all(libc::STDOUT_FILENO, num::part(text, 0, at));
+        io::write_all(STDOUT, num::part(text, 0, at));
     }
     0
 }
 
-// Reads once from standard input, behind the first `kept` bytes. A buffer without room ends the input.
-pub fn read_behind(input: &mut [u8], kept: usize) -> Input
+// Reads once, behind the first `kept` bytes. A buffer without room ends the input. A read that a signal interrupts has failed.
+pub fn read_from<R: Read>(source: &mut R, input: &mut [u8], kept: usize) -> Input
     ensures filled { Filled (length input.old) kept result }
     ensures front { take (min kept (length input.old)) input.new
         ≡ take (min kept (length input.old)) input.old }
@@ -55,14 +70,37 @@ pub fn read_behind(input: &mut [u8], kept: usize) -> Input
     if start == input.len() {
         return Input::End;
     }
-    let got = libc::read(libc::STDIN_FILENO, &mut input[start..]);
-    if got < 0 {
-        return Input::Failed;
+    match source.read(&mut input[start..]) {
+        Ok(0) => Input::End,
+        Ok(got) => Input::More(start + got),
+        Err(_) => Input::Failed,
     }
-    if got == 0 {
-        return Input::End;
+}
+
+// Reads once from standard input, behind the first `kept` bytes. A buffer without room ends the input.
+pub fn read_behind(rt: &HostRuntime, input: &mut [u8], kept: usize) -> Input
+    ensures filled { Filled (length input.old) kept result }
+    ensures front { take (min kept (length input.old)) input.new
+        ≡ take (min kept (length input.old)) input.old }
+{
+    read_from(&mut rt.stdin(), input, kept)
+}
+
+// Reads until the buffer is full, the source has ended or a read fails, and answers how many bytes were put at the buffer's front.
+pub fn read_full<R: Read>(source: &mut R, buffer: &mut [u8]) -> usize
+    ensures { result ≤ length buffer.new }
+{
+    let mut filled = 0;
+    while filled < buffer.len() {
+        let Ok(got) = source.read(&mut buffer[filled..]) else {
+            return filled;
+        };
+        if got == 0 {
+            return filled;
+        }
+        filled += got;
     }
-    Input::More(start + io::count(got, &input[start..]))
+    filled
 }
 
 // Moves the bytes from `from` to before `to` to the front, as far as there are any, and answers how many there are. The bytes

@@ -58,7 +58,7 @@ fn behind(line: BufferLine) -> usize {
 
 // The next line of standard input behind a line of the buffer. Bytes that no line has ended are moved to the buffer's front, and
 // more is read behind them; a line that has no room in the buffer ends the input, and so does one that is not closed.
-pub fn next_line(buffer: &mut [u8], before: BufferLine) -> BufferLine
+pub fn next_line(rt: &HostRuntime, buffer: &mut [u8], before: BufferLine) -> BufferLine
     ensures line { LineIn buffer.new result }
 {
     let mut line = line_at(&*buffer, behind(before), before.filled);
@@ -68,7 +68,7 @@ pub fn next_line(buffer: &mut [u8], before: BufferLine) -> BufferLine
             return line;
         }
         let kept = crate::keep(&mut *buffer, line.from, line.filled);
-        let read = crate::read_behind(&mut *buffer, kept);
+        let read = crate::read_behind(rt, &mut *buffer, kept);
         let Input::More(filled) = read else {
             return BufferLine::none();
         };

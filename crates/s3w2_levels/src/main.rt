@@ -1,4 +1,6 @@
 // s3w2-levels: prints the levels of each tenth of a second of the log on standard input.
-fn main() {
-    sound_program::print_levels();
+#![tactic(auto)]
+
+fn main(rt: HostRuntime) {
+    sound_program::print_levels(&rt);
 }

@@ -1,4 +1,6 @@
 // s3w2-log: plays the log on standard input and prints what it gives on standard output.
-fn main() {
-    log_program::play_log();
+#![tactic(auto)]
+
+fn main(rt: HostRuntime) {
+    log_program::play_log(&rt);
 }

@@ -1,8 +1,15 @@
 // s3w2_notes: prints the frequency of each sum of note and semitones, -128 to 382, on a line `sum,frequency`.
+#![tactic(auto)]
+
 ghost use Rattle.std.specs.Prelude.{◌≡◌, ◌<◌};
 ghost use Rattle.decimal.specs.Written.{Put};
 ghost use Rattle.notes.specs.Pitches.{sums, sum_at};
 ghost use Rattle.s3w2_notes.specs.Lines.{sum_line, LinePut, LinesPut};
+
+// The descriptors of standard output and standard error.
+const STDOUT: i32 = 1;
+
+const STDERR: i32 = 2;
 
 // A note and semitones.
 #[derive(Clone, Copy)]
@@ -71,10 +78,7 @@ fn put_lines(out: &mut [u8]) -> usize
 fn main() {
     let mut text = [0u8; 8192];
     let end = put_lines(&mut text);
-    if !io::write_all(libc::STDOUT_FILENO, num::part(&text, 0, end)) {
-        io::write_all(
-            libc::STDERR_FILENO,
-            b"s3w2-notes: the output cannot be written\n",
-        );
+    if !io::write_all(STDOUT, num::part(&text, 0, end)) {
+        io::write_all(STDERR, b"s3w2-notes: the output cannot be written\n");
     }
 }

@@ -1,4 +1,6 @@
 // Plays a script of calls: reads lines from standard input, prints each call's answer. oracle/README.md lists the lines.
+#![tactic(auto)]
+
 mod answers;
 mod calls;
 mod fields;
@@ -92,9 +94,15 @@ impl Player {
 }
 
 // Plays every line of the input, and answers the place behind the answers that are not written yet.
-fn play_lines(ram: &mut [u8], queues: &mut [i16], text: &mut [u8], out: &mut [u8]) -> usize {
+fn play_lines(
+    rt: &HostRuntime,
+    ram: &mut [u8],
+    queues: &mut [i16],
+    text: &mut [u8],
+    out: &mut [u8],
+) -> usize {
     let mut player = first(&mut *ram);
-    let mut line = program::next_line(&mut *text, BufferLine::none());
+    let mut line = program::next_line(rt, &mut *text, BufferLine::none());
     let mut turns: u64 = 0xffff_ffff_ffff_ffff;
     while 0 < turns {
         if !line.found {
@@ -106,21 +114,21 @@ fn play_lines(ram: &mut [u8], queues: &mut [i16], text: &mut [u8], out: &mut [u8
             &mut *queues,
             &mut *out,
         );
-        line = program::next_line(&mut *text, line);
+        line = program::next_line(rt, &mut *text, line);
         turns -= 1;
     }
     player.end
 }
 
-fn with_texts(ram: &mut [u8], queues: &mut [i16]) {
+fn with_texts(rt: &HostRuntime, ram: &mut [u8], queues: &mut [i16]) {
     let mut text = io::large_buffer();
     let mut out = [0u8; 2 * ANSWER_ROOM];
-    let end = play_lines(ram, queues, &mut text, &mut out);
+    let end = play_lines(rt, ram, queues, &mut text, &mut out);
     program::flush(&out, end, 2 * ANSWER_ROOM);
 }
 
-fn main() {
+fn main(rt: HostRuntime) {
     let mut ram = [0x55u8; RAM_ROOM];
     let mut queues = [0i16; CHIP_QUEUES + 16];
-    with_texts(&mut ram, &mut queues);
+    with_texts(&rt, &mut ram, &mut queues);
 }

@@ -1,21 +1,23 @@
 // s3w2-timed: plays the log with frame times on standard input and prints what it gives on standard output.
+#![tactic(auto)]
+
 mod playing;
 
 use cores::CHIP_QUEUES;
 
-fn with_buffers(ram: &mut [u8], queues: &mut [i16]) {
+fn with_buffers(rt: &HostRuntime, ram: &mut [u8], queues: &mut [i16]) {
     let mut input = io::large_buffer();
     let mut plain = [0u8; 66560];
     let mut text = [0u8; 67584];
-    playing::play(&mut input, &mut plain, &mut text, ram, queues);
+    playing::play(rt, &mut input, &mut plain, &mut text, ram, queues);
 }
 
-fn with_queues(queues: &mut [i16]) {
+fn with_queues(rt: &HostRuntime, queues: &mut [i16]) {
     let mut ram = io::large_buffer();
-    with_buffers(&mut ram, queues);
+    with_buffers(rt, &mut ram, queues);
 }
 
-fn main() {
+fn main(rt: HostRuntime) {
     let mut queues = [0i16; CHIP_QUEUES];
-    with_queues(&mut queues);
+    with_queues(&rt, &mut queues);
 }

@@ -1,6 +1,6 @@
 // A timed log played from standard input. Here bytes are only read, moved and written; what is printed is timed_log's.
 use log_player::Next;
-use program::{Input, say};
+use program::{Input, STDOUT, say};
 use timed_log::{Finished, Timed, TimedRan};
 
 // Where a run stands: the bytes of the input buffer from `from` to before `filled` are not written out yet, and begin with line
@@ -64,7 +64,7 @@ fn beginning(answer: u8) -> Place {
 
 // Writes the text's bytes before `end` to standard output, and answers whether it could.
 fn written(text: &[u8], end: usize) -> bool {
-    if io::write_all(libc::STDOUT_FILENO, num::part(text, 0, end)) {
+    if io::write_all(STDOUT, num::part(text, 0, end)) {
         return true;
     }
     say(b"s3w2-timed: the output cannot be written\n");
@@ -89,9 +89,9 @@ fn finish(timed: Timed, place: Place, text: &mut [u8], ram: &mut [u8], queues: &
 }
 
 // Goes on with more input, if there is any.
-fn refilled(from: usize, filled: usize, number: u64, input: &mut [u8]) -> Place {
+fn refilled(rt: &HostRuntime, from: usize, filled: usize, number: u64, input: &mut [u8]) -> Place {
     let kept = program::keep(&mut *input, from, filled);
-    let read = program::read_behind(input, kept);
+    let read = program::read_behind(rt, input, kept);
     match read {
         Input::More(more) => Place::at(0, more, number),
         Input::End => Place::ended(kept, number),
@@ -103,20 +103,20 @@ fn refilled(from: usize, filled: usize, number: u64, input: &mut [u8]) -> Place 
 }
 
 // Where a run goes on behind the lines that were played.
-fn behind(ran: TimedRan, filled: usize, input: &mut [u8]) -> Place {
+fn behind(rt: &HostRuntime, ran: TimedRan, filled: usize, input: &mut [u8]) -> Place {
     let next = ran.next;
     match next {
         Next::Line(_) => Place::at(ran.from, filled, ran.number),
-        Next::Rest => refilled(ran.from, filled, ran.number, input),
+        Next::Rest => refilled(rt, ran.from, filled, ran.number, input),
         Next::Bad(_) => Place::stopped(),
         Next::Refused(_) => refused(),
     }
 }
 
 // The same, where what they print can be written.
-fn told(ran: TimedRan, filled: usize, input: &mut [u8], text: &[u8]) -> Place {
+fn told(rt: &HostRuntime, ran: TimedRan, filled: usize, input: &mut [u8], text: &[u8]) -> Place {
     if written(text, ran.end) {
-        return behind(ran, filled, input);
+        return behind(rt, ran, filled, input);
     }
     Place::stopped()
 }
@@ -137,6 +137,7 @@ fn ran_on(
 
 // Plays the input from a place on, and writes what it prints.
 fn go_on(
+    rt: &HostRuntime,
     fresh: Timed,
     begin: Place,
     input: &mut [u8],
@@ -160,7 +161,7 @@ fn go_on(
                 &mut *queues,
             );
             timed = ran.timed;
-            place = told(ran, place.filled, &mut *input, &*text);
+            place = told(rt, ran, place.filled, &mut *input, &*text);
             turns -= 1;
         } else {
             turns = 0;
@@ -171,6 +172,7 @@ fn go_on(
 
 // Plays the whole input.
 pub(crate) fn play(
+    rt: &HostRuntime,
     input: &mut [u8],
     plain: &mut [u8],
     text: &mut [u8],
@@ -181,5 +183,5 @@ pub(crate) fn play(
     let timed = made.timed;
     let answer = made.answer;
     let place = beginning(answer.number());
-    go_on(timed, place, input, plain, text, ram, queues);
+    go_on(rt, timed, place, input, plain, text, ram, queues);
 }

@@ -1,6 +1,7 @@
 // The frames of a log, counted before it is played.
 use crate::playing::settled;
 use crate::{FRAMES, Run};
+use std::fs::File;
 
 // What is known of a log ahead: its frames, more than any file has where they are not known, or that it is not whole.
 #[derive(Clone, Copy)]
@@ -9,20 +10,28 @@ pub(crate) enum Known {
     NotWhole,
 }
 
-// A run after the next lines; where none can be taken, after more input.
-fn counted(run: Run, input: &mut [u8]) -> Run {
-    let lines = log_sound::pass(num::part(&*input, 0, run.filled), run.from, FRAMES);
-    let next = run.passed(lines.from, lines.count, lines.frames);
-    settled(run.from, next, input)
+// What was read ahead of a log: so many of its first bytes stand in the input buffer, and it has so many frames; more than any file has
+// where they are not known.
+#[derive(Clone, Copy)]
+pub(crate) struct Ahead {
+    pub filled: usize,
+    pub frames: u64,
 }
 
-// Counts the frames of the whole input.
-fn count(input: &mut [u8]) -> Run {
+// A run after the next lines; where none can be taken, after more input.
+fn counted(log: &mut File, run: Run, input: &mut [u8]) -> Run {
+    let lines = log_sound::pass(num::part(&*input, 0, run.filled), run.from, FRAMES);
+    let next = run.passed(lines.from, lines.count, lines.frames);
+    settled(log, run.from, next, input)
+}
+
+// Counts the frames of a whole log.
+fn count(log: &mut File, input: &mut [u8]) -> Run {
     let mut run = Run::begun();
     let mut turns: u64 = 0xffff_ffff_ffff_ffff;
     while 0 < turns {
         if run.going {
-            run = counted(run, &mut *input);
+            run = counted(&mut *log, run, &mut *input);
             turns -= 1;
         } else {
             turns = 0;
@@ -32,15 +41,38 @@ fn count(input: &mut [u8]) -> Run {
 }
 
 // Where the input can be read again, the log's frames are counted first, so that its length is known ahead.
-pub(crate) fn look_ahead(input: &mut [u8]) -> Known {
-    let begin = libc::lseek(libc::STDIN_FILENO, 0, libc::SEEK_CUR);
-    if begin < 0 {
+pub(crate) fn look_ahead(rt: &HostRuntime, input: &mut [u8]) -> Known {
+    let Some(mut log) = program::input_again(rt) else {
         return Known::Frames(wav::UNKNOWN);
-    }
-    let run = count(input);
+    };
+    let run = count(&mut log, input);
     if run.whole {
-        libc::lseek(libc::STDIN_FILENO, begin, libc::SEEK_SET);
         return Known::Frames(run.frames);
     }
     Known::NotWhole
+}
+
+// The frames of a log that stands in a text; more than any file has where it is not whole.
+fn frames_in(log: &[u8]) -> u64 {
+    let mut from = 0;
+    let mut frames: u64 = 0;
+    while from < log.len() {
+        let lines = log_sound::pass(log, from, FRAMES);
+        if lines.from <= from {
+            return wav::UNKNOWN;
+        }
+        from = lines.from;
+        frames = std::num::wrapping_add_u64(frames, lines.frames as u64);
+    }
+    frames
+}
+
+// Fills the input buffer. Of a log that ends within it the frames are known.
+pub(crate) fn read_ahead(rt: &HostRuntime, input: &mut [u8]) -> Ahead {
+    let filled = program::read_full(&mut rt.stdin(), &mut *input);
+    let mut frames = wav::UNKNOWN;
+    if filled < input.len() {
+        frames = frames_in(num::part(&*input, 0, filled));
+    }
+    Ahead { filled, frames }
 }

@@ -1,11 +1,13 @@
 // The files that a program writes: their headers first, then the frames; and what is said.
-use crate::counting::{Known, look_ahead};
+use crate::counting::{Ahead, Known, look_ahead, read_ahead};
 use crate::measuring::print_last;
 use crate::playing::play;
 use crate::{Run, Sound};
 use cores::{CHIP_STEMS, CHIP_VOICES};
-use program::say;
+use program::{STDOUT, say};
 use sizes::SAMPLE_RATE;
+use std::io::Seek;
+use std::os::unix::fs::FileExt;
 
 // The descriptor of voice 0's file.
 pub(crate) const FIRST_VOICE: i32 = 3;
@@ -41,12 +43,12 @@ fn files_of(sound: Sound) -> Files {
         Sound::Mix => Files {
             count: 1,
             channels: 2,
-            first: libc::STDOUT_FILENO,
+            first: STDOUT,
         },
         Sound::Stems => Files {
             count: 1,
             channels: CHIP_STEMS as u16,
-            first: libc::STDOUT_FILENO,
+            first: STDOUT,
         },
         Sound::Split => Files {
             count: CHIP_VOICES,
@@ -56,7 +58,7 @@ fn files_of(sound: Sound) -> Files {
         Sound::Levels => Files {
             count: 0,
             channels: 2,
-            first: libc::STDOUT_FILENO,
+            first: STDOUT,
         },
     }
 }
@@ -78,22 +80,37 @@ fn bytes_of(channels: u16, frames: u64) -> u64 {
     2 * (channels as u64) * frames
 }
 
-// Writes the header of so many frames to a descriptor, at a place; behind what was written where `place` is below 0.
-fn put_head(descriptor: i32, place: i64, channels: u16, frames: u64) -> bool {
+// Writes a header over what a descriptor's file has at a place.
+fn put_again(rt: &HostRuntime, descriptor: i32, place: u64, head: &[u8]) -> bool {
+    let Some(file) = program::output_again(rt, descriptor) else {
+        return false;
+    };
+    file.write_all_at(head, place).is_ok()
+}
+
+// Writes the header of so many frames to a descriptor, at a place; behind what was written where there is none.
+fn put_head(
+    rt: &HostRuntime,
+    descriptor: i32,
+    place: Option<u64>,
+    channels: u16,
+    frames: u64,
+) -> bool {
     let mut text = [0u8; wav::HEADER];
     let size = bytes_of(channels, frames);
     wav::put_header(&mut text, 0, channels, SAMPLE_RATE as u32, BITS, size);
-    if place < 0 {
-        return io::write_all(descriptor, &text);
+    match place {
+        Some(at) => put_again(rt, descriptor, at, &text),
+        None => io::write_all(descriptor, &text),
     }
-    0 < libc::pwrite(descriptor, &text, place)
 }
 
 // Writes the header of each file.
-fn put_heads(files: Files, place: i64, frames: u64) -> bool {
+fn put_heads(rt: &HostRuntime, files: Files, place: Option<u64>, frames: u64) -> bool {
     let mut n = 0;
     while n < files.count {
-        if !put_head(of_voice(files.first, n), place, files.channels, frames) {
+        let descriptor = of_voice(files.first, n);
+        if !put_head(rt, descriptor, place, files.channels, frames) {
             return false;
         }
         n += 1;
@@ -101,26 +118,41 @@ fn put_heads(files: Files, place: i64, frames: u64) -> bool {
     true
 }
 
+// The place where the files begin, whose headers are written; none where they cannot be written again. It is known only then: of a file
+// that grows at its end no place is told before something was written to it.
+fn begin_of(rt: &HostRuntime, files: Files) -> Option<u64> {
+    let mut file = program::output_again(rt, files.first)?;
+    let behind = file.stream_position().ok()?;
+    behind.checked_sub(wav::HEADER as u64)
+}
+
+// Cuts a descriptor's file off at a place.
+fn cut(rt: &HostRuntime, descriptor: i32, place: u64) {
+    if let Some(file) = program::output_again(rt, descriptor) {
+        let _ = file.set_len(place);
+    }
+}
+
 // A log that was not played whole leaves no file: what was written is cut off again, where that can be done.
-fn undo(files: Files, place: i64) {
+fn undo(rt: &HostRuntime, files: Files, place: u64) {
     let mut n = 0;
     while n < files.count {
-        libc::ftruncate(of_voice(files.first, n), place);
+        cut(rt, of_voice(files.first, n), place);
         n += 1;
     }
 }
 
 // The end of a run whose files begin at a place: a header that has not the right length is written again, where that can be done.
-fn ended(files: Files, run: Run, place: i64, known: u64, out: &mut [u8]) {
+fn ended(rt: &HostRuntime, files: Files, run: Run, place: Option<u64>, known: u64, out: &mut [u8]) {
     if !run.whole {
-        if 0 <= place {
-            undo(files, place);
+        if let Some(begin) = place {
+            undo(rt, files, begin);
         }
         return;
     }
     if run.frames != known {
-        if 0 <= place {
-            put_heads(files, place, run.frames);
+        if place.is_some() {
+            put_heads(rt, files, place, run.frames);
         }
     }
     if print_last(run, out) {
@@ -128,10 +160,11 @@ fn ended(files: Files, run: Run, place: i64, known: u64, out: &mut [u8]) {
     }
 }
 
-// Plays the log and writes its files; `known` is how many frames it has, more than any file has where that is not known.
+// Plays the log and writes its files.
 fn write(
+    rt: &HostRuntime,
     sound: Sound,
-    known: u64,
+    ahead: Ahead,
     input: &mut [u8],
     ram: &mut [u8],
     queues: &mut [i16],
@@ -140,18 +173,51 @@ fn write(
     out: &mut [u8],
 ) {
     let files = files_of(sound);
-    let place = libc::lseek(files.first, 0, libc::SEEK_CUR);
-    if put_heads(files, -1, known) {
-        let run = play(sound, input, ram, queues, stems, others, &mut *out);
-        ended(files, run, place, known, out);
+    let known = ahead.frames;
+    if put_heads(rt, files, None, known) {
+        let place = begin_of(rt, files);
+        let run = play(
+            rt,
+            sound,
+            ahead.filled,
+            input,
+            ram,
+            queues,
+            stems,
+            others,
+            &mut *out,
+        );
+        ended(rt, files, run, place, known, out);
         return;
     }
     complain(b"the output cannot be written\n");
 }
 
+// What is read ahead of a log that has so many frames, as far as is known. It is waited for only where its length is not known and could
+// not be written later.
+fn read_before(
+    rt: &HostRuntime,
+    sound: Sound,
+    waits: bool,
+    frames: u64,
+    input: &mut [u8],
+) -> Ahead {
+    let files = files_of(sound);
+    if waits {
+        if frames == wav::UNKNOWN {
+            if program::output_again(rt, files.first).is_none() {
+                return read_ahead(rt, input);
+            }
+        }
+    }
+    Ahead { filled: 0, frames }
+}
+
 // Nothing is written of a log that has a bad line, where that is known ahead.
 pub(crate) fn make(
+    rt: &HostRuntime,
     sound: Sound,
+    waits: bool,
     input: &mut [u8],
     ram: &mut [u8],
     queues: &mut [i16],
@@ -159,8 +225,9 @@ pub(crate) fn make(
     others: &mut [i16],
     out: &mut [u8],
 ) {
-    let ahead = look_ahead(&mut *input);
-    if let Known::Frames(frames) = ahead {
-        write(sound, frames, input, ram, queues, stems, others, out);
+    let known = look_ahead(rt, &mut *input);
+    if let Known::Frames(frames) = known {
+        let ahead = read_before(rt, sound, waits, frames, &mut *input);
+        write(rt, sound, ahead, input, ram, queues, stems, others, out);
     }
 }

@@ -2,6 +2,7 @@
 // of the right one, and the peak of each of core 0's eight voices.
 use crate::{FRAMES, Level, Run};
 use levels::SideLevel;
+use program::STDOUT;
 use sizes::STEMS;
 
 // A tenth of a second.
@@ -82,7 +83,7 @@ fn print_level(level: Level, out: &mut [u8]) -> bool {
     let letter = decimal::put_byte(&mut *out, 0, 76);
     let fields = sqv4_text::put_fields(&mut *out, letter, &numbers);
     let end = decimal::put_byte(&mut *out, fields, 10);
-    crate::sounds::written(libc::STDOUT_FILENO, out, end)
+    crate::sounds::written(STDOUT, out, end)
 }
 
 // A run whose frames behind the last tenth of a second are printed, if there are any.

@@ -7,6 +7,7 @@ use log_sound::Sounded;
 use program::Input;
 use s3w2::{Answer, Chip};
 use sizes::{SAMPLE_RATE, STEMS};
+use std::io::Read;
 
 impl Run {
     // Nothing read.
@@ -46,9 +47,9 @@ fn bad(run: Run, why: u8) -> Run {
 }
 
 // Goes on with more input; where there is none, the log is whole if it ends in byte 10.
-fn refilled(run: Run, input: &mut [u8]) -> Run {
+fn refilled<R: Read>(source: &mut R, run: Run, input: &mut [u8]) -> Run {
     let kept = program::keep(&mut *input, run.from, run.filled);
-    let read = program::read_behind(input, kept);
+    let read = program::read_from(source, input, kept);
     match read {
         Input::More(filled) => run.at(0, filled),
         Input::End => {
@@ -65,11 +66,11 @@ fn refilled(run: Run, input: &mut [u8]) -> Run {
 }
 
 // Goes on where no line could be taken.
-fn unplayed(run: Run, input: &mut [u8]) -> Run {
+fn unplayed<R: Read>(source: &mut R, run: Run, input: &mut [u8]) -> Run {
     let next = log_sound::look(num::part(&*input, 0, run.filled), run.from);
     match next {
         Next::Line(_) => run.stopped(false),
-        Next::Rest => refilled(run, input),
+        Next::Rest => refilled(source, run, input),
         Next::Bad(why) => bad(run, num::least(why as usize, 255) as u8),
         Next::Refused(_) => run.stopped(false),
     }
@@ -95,10 +96,10 @@ impl Run {
 }
 
 // A run that stood at `before`; where no line was taken it goes on with more input.
-pub(crate) fn settled(before: usize, run: Run, input: &mut [u8]) -> Run {
+pub(crate) fn settled<R: Read>(source: &mut R, before: usize, run: Run, input: &mut [u8]) -> Run {
     if run.from == before {
         if run.going {
-            return unplayed(run, input);
+            return unplayed(source, run, input);
         }
     }
     run
@@ -154,6 +155,7 @@ fn heard(
 
 // The same; where no line was taken it goes on with more input.
 fn turn(
+    rt: &HostRuntime,
     sound: Sound,
     run: Run,
     lines: Sounded,
@@ -163,13 +165,15 @@ fn turn(
     out: &mut [u8],
 ) -> Run {
     let next = heard(sound, run, lines, stems, others, out);
-    settled(run.from, next, input)
+    settled(&mut rt.stdin(), run.from, next, input)
 }
 
-// Plays the whole input on a chip.
+// Plays the whole input on a chip; `begun` is a run of which nothing was played.
 fn play_on(
+    rt: &HostRuntime,
     sound: Sound,
     fresh: Chip,
+    begun: Run,
     input: &mut [u8],
     ram: &mut [u8],
     queues: &mut [i16],
@@ -178,7 +182,7 @@ fn play_on(
     out: &mut [u8],
 ) -> Run {
     let mut chip = fresh;
-    let mut run = Run::begun();
+    let mut run = begun;
     let mut turns: u64 = 0xffff_ffff_ffff_ffff;
     while 0 < turns {
         if run.going {
@@ -192,7 +196,16 @@ fn play_on(
                 &mut *others,
             );
             chip = lines.chip;
-            run = turn(sound, run, lines, &mut *input, &*stems, &*others, &mut *out);
+            run = turn(
+                rt,
+                sound,
+                run,
+                lines,
+                &mut *input,
+                &*stems,
+                &*others,
+                &mut *out,
+            );
             turns -= 1;
         } else {
             turns = 0;
@@ -201,8 +214,11 @@ fn play_on(
     run
 }
 
+// The same on a fresh chip; so many bytes of the input stand in its buffer already.
 pub(crate) fn play(
+    rt: &HostRuntime,
     sound: Sound,
+    filled: usize,
     input: &mut [u8],
     ram: &mut [u8],
     queues: &mut [i16],
@@ -212,5 +228,17 @@ pub(crate) fn play(
 ) -> Run {
     let called = Chip::new(&mut *ram);
     let chip = called.chip;
-    play_on(sound, chip, input, ram, queues, stems, others, out)
+    let begun = Run::begun();
+    play_on(
+        rt,
+        sound,
+        chip,
+        begun.at(0, filled),
+        input,
+        ram,
+        queues,
+        stems,
+        others,
+        out,
+    )
 }

@@ -4,6 +4,7 @@ ghost use Rattle.std.specs.Prelude.{◌≤◌};
 use crate::files::{FIRST_VOICE, complain, of_voice};
 use crate::measuring::measured;
 use crate::{FRAMES, Run, Sound};
+use program::STDOUT;
 use sizes::{NUM_CHANNELS, STEMS};
 
 // Writes the first bytes of out to a descriptor, and answers whether it could.
@@ -25,7 +26,7 @@ fn mix_by(
 ) -> bool {
     sides::add(stems, others, &mut *left, &mut *right, 0);
     let end = wav::put_sides(&mut *out, 0, left, right);
-    written(libc::STDOUT_FILENO, out, end)
+    written(STDOUT, out, end)
 }
 
 fn mix(stems: &[i16], others: &[i16], out: &mut [u8]) -> bool {
@@ -45,7 +46,7 @@ fn all_stems(stems: &[i16], others: &[i16], out: &mut [u8]) -> bool {
         let middle = wav::put_samples(&mut *out, end, &stems[from..to]);
         end = wav::put_samples(&mut *out, middle, &others[from..to]);
     }
-    written(libc::STDOUT_FILENO, out, end)
+    written(STDOUT, out, end)
 }
 
 // Each voice's go to its file; `first` is the first voice of core 0 or 1.

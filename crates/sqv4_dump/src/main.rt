@@ -1,4 +1,6 @@
 // Prints what the SQV4 file on standard input is.
-fn main() {
-    sqv4_text::print_single();
+#![tactic(auto)]
+
+fn main(rt: HostRuntime) {
+    sqv4_text::print_single(&rt);
 }

@@ -3,9 +3,16 @@
 // kind 0, unpack_code: sample, width, 0, length of the slice, length of the buffer (0);
 // kind 1, decode_code: predictor, index, code;
 // kind 2, decode_fragment, and 3, decode_legacy_fragment: predictor, index, 0, length of the slice, length of the buffer.
+#![tactic(auto)]
+
 ghost use Rattle.std.specs.Prelude.{◌≤◌};
 
 use adpcm::{State, Variant, VariantByte};
+
+// The descriptors of standard input and standard output.
+const STDIN: i32 = 0;
+
+const STDOUT: i32 = 1;
 
 // What a call gives: a code and 0, or a state's predictor and index.
 #[derive(Clone, Copy)]
@@ -77,7 +84,7 @@ fn tell(call: &[u8], out: &mut [i16], text: &mut [u8]) {
     let fields = sqv4_text::put_fields(text, 0, &values);
     let line = decimal::put_byte(text, fields, 10);
     let end = sqv4_text::put_samples(text, line, out);
-    io::write_all(libc::STDOUT_FILENO, num::part(text, 0, end));
+    io::write_all(STDOUT, num::part(text, 0, end));
 }
 
 // Answers a call, over a buffer that held 12,345 everywhere.
@@ -91,7 +98,7 @@ fn print(call: &[u8]) {
 fn print_all(call: &mut [u8]) {
     let mut calls: u64 = 0xffff_ffff_ffff_ffff;
     while 0 < calls {
-        let got = io::read_full(libc::STDIN_FILENO, call);
+        let got = io::read_full(STDIN, call);
         if got < 256 {
             return;
         }

@@ -1,6 +1,8 @@
 // sqv4_make: makes a mono SQV4 file of version 3. Standard input has a first line `variant,rate,volume,index` and then a line for each sample.
 // The file goes to standard output; or `refused` and the number (docs/SPECIFICATION.md, section 12), or `bad`, the number of the first line
 // that is no such line, 17.
+#![tactic(auto)]
+
 ghost use Rattle.std.specs.Prelude.{◌≡◌, length};
 ghost use Rattle.sqv4_make.specs.Making.{most_samples};
 
@@ -52,16 +54,16 @@ pub(crate) struct Progress {
 }
 
 // Room for the file.
-fn with_samples(samples: &mut [i16])
+fn with_samples(rt: &HostRuntime, samples: &mut [i16])
     requires { length samples.old ≡ most_samples }
 {
     let mut file = [0u8; 1048576];
     let mut input = io::large_buffer();
-    moving::run(&mut input, samples, &mut file);
+    moving::run(rt, &mut input, samples, &mut file);
 }
 
 // Room for the samples of the longest file: 40,329 fragments of 26 bytes, with 63 samples in each.
-fn main() {
+fn main(rt: HostRuntime) {
     let mut samples = [0i16; 2540727];
-    with_samples(&mut samples);
+    with_samples(&rt, &mut samples);
 }

@@ -5,6 +5,12 @@ ghost use Rattle.sqv4_make.specs.Making.{most_samples, most_bytes};
 use crate::Progress;
 use crate::making::{begun, feed, is_whole, make};
 use sqv4_writer::StreamAnswer;
+use std::io::Read;
+
+// The descriptors of standard output and standard error.
+const STDOUT: i32 = 1;
+
+const STDERR: i32 = 2;
 
 #[derive(Clone, Copy)]
 enum Got {
@@ -13,12 +19,12 @@ enum Got {
 }
 
 fn complain(reason: &[u8]) {
-    io::write_all(libc::STDERR_FILENO, b"sqv4-make: ");
-    io::write_all(libc::STDERR_FILENO, reason);
+    io::write_all(STDERR, b"sqv4-make: ");
+    io::write_all(STDERR, reason);
 }
 
 fn write(bytes: &[u8]) {
-    if !io::write_all(libc::STDOUT_FILENO, bytes) {
+    if !io::write_all(STDOUT, bytes) {
         complain(b"the output cannot be written\n");
     }
 }
@@ -60,13 +66,13 @@ fn finish(making: Progress, samples: &[i16], file: &mut [u8])
     }
 }
 
-fn read(input: &mut [u8]) -> Got {
-    let got = libc::read(libc::STDIN_FILENO, &mut *input);
-    if got < 0 {
+// Reads once. A read that a signal interrupts has failed.
+fn read(rt: &HostRuntime, input: &mut [u8]) -> Got {
+    let Ok(got) = rt.stdin().read(input) else {
         complain(b"the input cannot be read\n");
         return Got::Failed;
-    }
-    Got::Bytes(io::count(got, input))
+    };
+    Got::Bytes(got)
 }
 
 // Whether more is to be read, after n bytes.
@@ -78,13 +84,13 @@ fn goes_on(n: usize, good: bool) -> bool {
 }
 
 // Reads and feeds until the input ends or a line is none, and writes what is made of it.
-pub(crate) fn run(input: &mut [u8], samples: &mut [i16], file: &mut [u8])
+pub(crate) fn run(rt: &HostRuntime, input: &mut [u8], samples: &mut [i16], file: &mut [u8])
     requires { (length samples.old ≡ most_samples) × (length file.old ≡ most_bytes) }
 {
     let mut making = begun();
     let mut turns: u64 = 0xffff_ffff_ffff_ffff;
     while 0 < turns {
-        let got = read(&mut *input);
+        let got = read(rt, &mut *input);
         let Got::Bytes(n) = got else {
             return;
         };

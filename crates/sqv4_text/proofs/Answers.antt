@@ -1,20 +1,17 @@
 -- What an answer's line says, by the answer. Assumes nothing.
 use Rattle.std.proofs.Common.{◌≡◌, [], ◌∷◌, sym, refl, ap, ◌∙◌}
-use types.Run.{OneOf, miss}
-use denote.Enum.Declared.{tag_of}
-use Rattle.sqv4.specs.contracts.Inspected.{the_type}
 use Rattle.sqv4.specs.declared.Header.{Header}
 use Rattle.sqv4.specs.declared.Inspected.{Inspected}
 use Rattle.sqv4.specs.declared.Inspected.TheVariants.{Accepted, TruncatedHeader, InvalidMagic, UnsupportedVersion, InvalidVariant, InvalidChannels, InvalidReservedByte, ZeroSampleRate, InvalidFileLength, InvalidStepIndex, NonZeroPadding}
 use Rattle.sqv4_text.specs.declared.Values.{Values}
 use Rattle.sqv4_text.specs.Lines.{from_header, values_of, word_of, header_samples, samples_in, Lists}
 
--- the tags of the refusals
+-- an answer that refuses
 abbrev pub Refused : Inspected → Type 0
-Refused found = OneOf (1 ∷ 2 ∷ 3 ∷ 4 ∷ 5 ∷ 6 ∷ 7 ∷ 8 ∷ 9 ∷ 10 ∷ []) (tag_of the_type found)
+Refused found = (h : Header) → found ≡ Accepted h → ⊥
 
 refused-is : {A : Type 0} (f : Header → A) (d : A) (found : Inspected) → Refused found → from_header f d found ≡ d
-refused-is f d (Accepted h) k = absurd (miss (1 ∷ 2 ∷ 3 ∷ 4 ∷ 5 ∷ 6 ∷ 7 ∷ 8 ∷ 9 ∷ 10 ∷ []) 0 tt k)
+refused-is f d (Accepted h) k = absurd (k h refl)
 refused-is f d TruncatedHeader k = refl
 refused-is f d InvalidMagic k = refl
 refused-is f d (UnsupportedVersion x) k = refl

@@ -1,4 +1,6 @@
 // The text that tells of an SQV4 file: one line for the check's answer, then a line for each interleaved sample.
+#![tactic(auto)]
+
 ghost use Rattle.std.specs.Prelude.{◌≡◌, ◌<◌, ◌≤◌, [], ◌∷◌, length};
 ghost use Rattle.decimal.specs.Written.{Put};
 ghost use Rattle.sqv4_text.specs.Lines.{Lists, header_values, values_of, samples_in, fields, lines, word_of, answer_line};
@@ -6,7 +8,9 @@ ghost use Rattle.sqv4_text.specs.Lines.{Lists, header_values, values_of, samples
 mod pieces;
 mod windows;
 
+use program::STDIN;
 use sqv4::{Header, Inspected};
+use std::fs::File;
 
 // The longest file by itself: no longer one can lie in a chip's RAM.
 const LONGEST_READ: usize = 16777216;
@@ -192,7 +196,7 @@ fn number(bytes: &[u8; 4]) -> usize {
 // Reads the length that stands before the next file.
 fn read_length() -> Batched {
     let mut head = [0u8; 4];
-    let got = io::read_full(libc::STDIN_FILENO, &mut head);
+    let got = io::read_full(STDIN, &mut head);
     if got == 0 {
         return Batched::End;
     }
@@ -211,7 +215,7 @@ fn read_next(file: &mut [u8]) -> Batched {
     if file.len() <= length {
         return Batched::TooLong;
     }
-    if io::read_full(libc::STDIN_FILENO, &mut file[..length]) < length {
+    if io::read_full(STDIN, &mut file[..length]) < length {
         return Batched::CutShort;
     }
     next
@@ -274,28 +278,28 @@ pub fn print_batch() {
 }
 
 // Puts what the one file on standard input is, of which `length` bytes stand in the window. One that fills it is read window by
-// window.
-fn put_one(begin: i64, length: usize, window: &mut [u8], text: &mut [u8]) -> usize {
+// window, from the input that was opened again where it began.
+fn put_one(again: Option<File>, length: usize, window: &mut [u8], text: &mut [u8]) -> usize {
     if length < window.len() {
         return pieces::print_file(num::part(window, 0, length), text);
     }
-    windows::print_long(begin, window, text)
+    windows::print_long(again, length, window, text)
 }
 
-fn print_one(window: &mut [u8], text: &mut [u8]) {
-    let begin = libc::lseek(libc::STDIN_FILENO, 0, libc::SEEK_CUR);
-    let length = io::read_full(libc::STDIN_FILENO, &mut *window);
-    let end = put_one(begin, length, window, &mut *text);
+fn print_one(rt: &HostRuntime, window: &mut [u8], text: &mut [u8]) {
+    let again = program::input_again(rt);
+    let length = io::read_full(STDIN, &mut *window);
+    let end = put_one(again, length, window, &mut *text);
     program::flush(text, end, EVERYTHING);
 }
 
-fn with_window(window: &mut [u8]) {
+fn with_window(rt: &HostRuntime, window: &mut [u8]) {
     let mut text = io::large_buffer();
-    print_one(window, &mut text);
+    print_one(rt, window, &mut text);
 }
 
 // Prints what the one file on standard input is. It has no buffer for the samples, nor for a long file.
-pub fn print_single() {
+pub fn print_single(rt: &HostRuntime) {
     let mut window = io::large_buffer();
-    with_window(&mut window);
+    with_window(rt, &mut window);
 }

@@ -2,7 +2,10 @@
 // samples is the window's own, are a file by themselves: its check finds in them what the check of the whole finds there.
 use crate::LONGEST_READ;
 use crate::pieces::{Place, begun, print_pieces};
+use program::STDIN;
 use sqv4::{Header, Inspected};
+use std::fs::File;
+use std::io::{Seek, SeekFrom};
 
 // The bytes of a header.
 const HEAD: usize = 16;
@@ -19,16 +22,32 @@ struct Walk {
     place: Place,
 }
 
-// Goes back to where the input began.
-fn again(begin: i64) {
-    libc::lseek(libc::STDIN_FILENO, begin, libc::SEEK_SET);
+// The input opened again, and the place where it began.
+#[derive(Drop)]
+struct Source {
+    file: File,
+    begin: u64,
 }
 
-// The bytes of the input, or some more than the longest file has.
-fn count_input(window: &mut [u8]) -> usize {
-    let mut count = 0;
+impl Source {
+    // A file that stands where the input began.
+    fn of(again: Option<File>) -> Option<Source> {
+        let mut file = again?;
+        let begin = file.stream_position().ok()?;
+        Some(Source { file, begin })
+    }
+}
+
+// Goes back to where the input began.
+fn again(source: &mut Source) {
+    let _ = source.file.seek(SeekFrom::Start(source.begin));
+}
+
+// The bytes of the input, of which some have been read, or some more than the longest file has.
+fn count_input(read: usize, window: &mut [u8]) -> usize {
+    let mut count = num::least(read, 65536);
     while count <= LONGEST_READ {
-        let got = num::least(io::read_full(libc::STDIN_FILENO, &mut *window), 65536);
+        let got = num::least(io::read_full(STDIN, &mut *window), 65536);
         if got == 0 {
             return count;
         }
@@ -56,18 +75,18 @@ fn count_of(window: &[u8]) -> usize {
 }
 
 // Reads the header.
-fn read_head(window: &mut [u8]) {
+fn read_head(source: &mut Source, window: &mut [u8]) {
     let end = num::least(HEAD, window.len());
-    io::read_full(libc::STDIN_FILENO, &mut window[..end]);
+    program::read_full(&mut source.file, &mut window[..end]);
 }
 
 // Reads bytes behind the header of a window, and answers where they end.
-fn read_window(window: &mut [u8], bytes: usize) -> usize {
+fn read_window(source: &mut Source, window: &mut [u8], bytes: usize) -> usize {
     let end = num::least(HEAD + num::least(bytes, 65536), window.len());
     let start = num::least(HEAD, end);
     start
         + num::least(
-            io::read_full(libc::STDIN_FILENO, &mut window[start..end]),
+            program::read_full(&mut source.file, &mut window[start..end]),
             65536,
         )
 }
@@ -87,8 +106,8 @@ fn window_samples(header: Header, rest: usize) -> usize {
 }
 
 // Makes the next window a file by itself, and answers where it ends.
-fn next_window(header: Header, rest: usize, window: &mut [u8]) -> usize {
-    let end = read_window(&mut *window, window_bytes(header));
+fn next_window(source: &mut Source, header: Header, rest: usize, window: &mut [u8]) -> usize {
+    let end = read_window(source, &mut *window, window_bytes(header));
     put_count(window, window_samples(header, rest));
     end
 }
@@ -119,13 +138,27 @@ fn passed(header: Header, walk: Walk, prints: bool, file: &[u8], text: &mut [u8]
     }
 }
 
-fn step(header: Header, walk: Walk, prints: bool, window: &mut [u8], text: &mut [u8]) -> Walk {
-    let end = next_window(header, walk.rest, &mut *window);
+fn step(
+    source: &mut Source,
+    header: Header,
+    walk: Walk,
+    prints: bool,
+    window: &mut [u8],
+    text: &mut [u8],
+) -> Walk {
+    let end = next_window(source, header, walk.rest, &mut *window);
     passed(header, walk, prints, num::part(window, 0, end), text)
 }
 
 // All windows of a file, behind its header.
-fn walked(header: Header, place: Place, prints: bool, window: &mut [u8], text: &mut [u8]) -> Walk {
+fn walked(
+    source: &mut Source,
+    header: Header,
+    place: Place,
+    prints: bool,
+    window: &mut [u8],
+    text: &mut [u8],
+) -> Walk {
     let mut walk = Walk {
         rest: place.rest,
         found: Inspected::Accepted(header),
@@ -134,7 +167,7 @@ fn walked(header: Header, place: Place, prints: bool, window: &mut [u8], text: &
     let mut turns: u64 = 0xffff_ffff;
     while 0 < turns {
         if 0 < walk.rest {
-            walk = step(header, walk, prints, &mut *window, &mut *text);
+            walk = step(&mut *source, header, walk, prints, &mut *window, &mut *text);
             turns -= 1;
         } else {
             turns = 0;
@@ -144,30 +177,30 @@ fn walked(header: Header, place: Place, prints: bool, window: &mut [u8], text: &
 }
 
 // What the fragments of a file are found to be.
-fn checked(header: Header, window: &mut [u8], text: &mut [u8]) -> Inspected {
+fn checked(source: &mut Source, header: Header, window: &mut [u8], text: &mut [u8]) -> Inspected {
     let place = begun(header.samples_per_channel, 0);
-    let walk = walked(header, place, false, window, text);
+    let walk = walked(source, header, place, false, window, text);
     walk.found
 }
 
 // Prints a file that is taken.
-fn print_taken(header: Header, begin: i64, window: &mut [u8], text: &mut [u8]) -> usize {
+fn print_taken(source: &mut Source, header: Header, window: &mut [u8], text: &mut [u8]) -> usize {
     let end = crate::put_answer(&mut *text, 0, Inspected::Accepted(header));
-    again(begin);
-    read_head(&mut *window);
+    again(&mut *source);
+    read_head(&mut *source, &mut *window);
     let first = begun(header.samples_per_channel, end);
-    let walk = walked(header, first, true, window, text);
+    let walk = walked(source, header, first, true, window, text);
     let place = walk.place;
     place.end
 }
 
 // Prints a file whose length is right.
-fn print_walked(header: Header, begin: i64, window: &mut [u8], text: &mut [u8]) -> usize {
-    let found = checked(header, &mut *window, &mut *text);
+fn print_walked(source: &mut Source, header: Header, window: &mut [u8], text: &mut [u8]) -> usize {
+    let found = checked(&mut *source, header, &mut *window, &mut *text);
     let Inspected::Accepted(_) = found else {
         return crate::put_answer(text, 0, found);
     };
-    print_taken(header, begin, window, text)
+    print_taken(source, header, window, text)
 }
 
 // The length that a header at the front of a window asks for.
@@ -188,9 +221,9 @@ struct FileHead {
     expected: usize,
 }
 
-fn file_head(begin: i64, window: &mut [u8]) -> FileHead {
-    again(begin);
-    read_head(&mut *window);
+fn file_head(source: &mut Source, window: &mut [u8]) -> FileHead {
+    again(&mut *source);
+    read_head(source, &mut *window);
     let samples = count_of(&*window);
     let expected = asked(&*window);
     put_count(&mut *window, 0);
@@ -233,30 +266,28 @@ fn found_of(head: FileHead, length: usize) -> Inspected {
 }
 
 // Prints a file that is not too long.
-fn print_opened(begin: i64, length: usize, window: &mut [u8], text: &mut [u8]) -> usize {
-    let head = file_head(begin, &mut *window);
+fn print_opened(source: &mut Source, length: usize, window: &mut [u8], text: &mut [u8]) -> usize {
+    let head = file_head(&mut *source, &mut *window);
     let found = found_of(head, length);
     let Inspected::Accepted(header) = found else {
         return crate::put_answer(text, 0, found);
     };
-    print_walked(header, begin, window, text)
+    print_walked(source, header, window, text)
 }
 
-// The bytes of the input, or some more than the longest file has, as where it cannot be read again.
-fn input_length(begin: i64, window: &mut [u8]) -> usize {
-    if begin < 0 {
-        return LONGEST_READ + 1;
+// Puts what the file on standard input is, of which so many bytes have been read, and writes what the text has no room for. It is read
+// again from where it began; one that cannot be read again is too long.
+pub(crate) fn print_long(
+    again: Option<File>,
+    read: usize,
+    window: &mut [u8],
+    text: &mut [u8],
+) -> usize {
+    if let Some(mut source) = Source::of(again) {
+        let length = count_input(read, &mut *window);
+        if length <= LONGEST_READ {
+            return print_opened(&mut source, length, window, text);
+        }
     }
-    again(begin);
-    count_input(window)
-}
-
-// Puts what the file on standard input is, and writes what the text has no room for. It is read again from where it began, which is
-// below 0 where that cannot be done.
-pub(crate) fn print_long(begin: i64, window: &mut [u8], text: &mut [u8]) -> usize {
-    let length = input_length(begin, &mut *window);
-    if LONGEST_READ < length {
-        return decimal::put_text(text, 0, b"too long\n");
-    }
-    print_opened(begin, length, window, text)
+    decimal::put_text(text, 0, b"too long\n")
 }
