@@ -18,7 +18,6 @@ returns-then-not-is_ram_length-clause-called c =
 pub returns-then-not-is_ram_length-clause-ram : goal.returns-then-not-is_ram_length-clause-ram
 unfolding made_called made_ram
 returns-then-not-is_ram_length-clause-ram c =
-    let v = c.args.version in
     let e = no-ram _ true true true (sym c.is_ram_length.ensures ∙ c.if-not-is_ram_length.true) in (stays RamLength _ e _ _ refl)
 
 pub returns-clause-called : goal.returns-clause-called
@@ -30,5 +29,4 @@ returns-clause-called c =
 pub returns-clause-ram : goal.returns-clause-ram
 unfolding made_called made_ram
 returns-clause-ram c =
-    let v = c.args.version in
     let e = nothing-amiss _ true true true (sym c.is_ram_length.ensures ∙ c.if-not-is_ram_length.false) refl refl refl in (c.zero.ensures ∙ goes-on Done _ e _ _ refl)
