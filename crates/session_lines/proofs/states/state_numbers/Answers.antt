@@ -1,4 +1,5 @@
 use mathlib.Core.Path.{◌≡◌}
+use borrow.Author.Rules.{rules}
 use mir.Syntax.{w16}
 use mir.Val.{SFits, of_z}
 use Rattle.num.proofs.Integers.{back}
@@ -9,8 +10,8 @@ pub returns : goal.returns
 unfolding state_numbers
 returns c =
     let a = c.args.c in
-    let last : SFits w16 a.oscillator.last_sample = record { sfits = c.struct_told-1.given.1.1.1.0.1 } in
-    let held : SFits w16 a.fifo.held = record { sfits = c.struct_told-2-1.given.1.1.0.1 } in
+    let last : SFits w16 a.oscillator.last_sample = search rules in
+    let held : SFits w16 a.fifo.held = search rules in
     let first : c.bits16.result ≡ of_z w16 a.oscillator.last_sample = rw (back w16 _ last) at c.bits16.ensures in
     let second : c.bits16-2.result ≡ of_z w16 a.fifo.held = rw (back w16 _ held) at c.bits16-2.ensures in
     rw (c.number.ensures, c.number-2.ensures, c.flag.ensures, first, second)
