@@ -29,8 +29,6 @@ pub returns-clause-called : goal.returns-clause-called
 unfolding clock_mixed_called clock_mixed_left clock_mixed_right
 returns-clause-called c =
     let a = c.args in
-    let g = c.refusal_of_sound-refusal in
-    let done = sym c.is_done.ensures ∙ c.if-not-is_done.false in
     let n = c.least-n in
     let l = c.clear in
     let r = c.clear-2 in

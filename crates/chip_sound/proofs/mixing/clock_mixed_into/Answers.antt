@@ -133,8 +133,6 @@ returns-clause-left c =
     let done = sym c.is_done.ensures ∙ c.if-not-is_done.false in
     let e = c.second_sounds-sounds.ensures in
     let h = c.loop-at-test.false in
-    let chip = c.with_cores-after in
-    let now = chip-over saturating a.ram.now a.queues.now sounds a.chip a.left.now a.right.now n l.at l.first l.second l.left l.right l.invariant.0 e h chip.result chip.ensures in
     (left-over saturating a.ram.now a.queues.now sounds a.chip a.left.now a.right.now n l.at l.first l.second l.left l.right l.invariant.0 e h ∙ goes-on r.result _ r.ensures _ _ done)
 
 pub returns-clause-right : goal.returns-clause-right
@@ -148,6 +146,4 @@ returns-clause-right c =
     let done = sym c.is_done.ensures ∙ c.if-not-is_done.false in
     let e = c.second_sounds-sounds.ensures in
     let h = c.loop-at-test.false in
-    let chip = c.with_cores-after in
-    let now = chip-over saturating a.ram.now a.queues.now sounds a.chip a.left.now a.right.now n l.at l.first l.second l.left l.right l.invariant.0 e h chip.result chip.ensures in
     (right-over saturating a.ram.now a.queues.now sounds a.chip a.left.now a.right.now n l.at l.first l.second l.left l.right l.invariant.0 e h ∙ goes-on r.result _ r.ensures _ _ done)

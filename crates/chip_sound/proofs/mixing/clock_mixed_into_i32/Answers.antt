@@ -137,10 +137,6 @@ returns-clause-left c =
     let done = sym c.is_done.ensures ∙ c.if-not-is_done.false in
     let e = c.second_sounds-sounds.ensures in
     let h = c.loop-at-test.false in
-    let chip = c.with_cores-after in
-    let now = chip-over wrapping a.ram.now a.queues.now sounds a.chip a.left.now a.right.now n l.at l.first l.second l.left l.right l.invariant.0 e h chip.result chip.ensures in
-    let was = c.flags-was in
-    let told = c.ended_since.ensures ∙ ap (λ (x : ℕ). Ended x) (both-ended a.chip a.ram.now a.queues.now _ chip.result was.result.first was.result.second was.ensures.first was.ensures.second now) in
     (left-over wrapping a.ram.now a.queues.now sounds a.chip a.left.now a.right.now n l.at l.first l.second l.left l.right l.invariant.0 e h ∙ goes-on r.result _ r.ensures _ _ done)
 
 pub returns-clause-right : goal.returns-clause-right
@@ -154,8 +150,4 @@ returns-clause-right c =
     let done = sym c.is_done.ensures ∙ c.if-not-is_done.false in
     let e = c.second_sounds-sounds.ensures in
     let h = c.loop-at-test.false in
-    let chip = c.with_cores-after in
-    let now = chip-over wrapping a.ram.now a.queues.now sounds a.chip a.left.now a.right.now n l.at l.first l.second l.left l.right l.invariant.0 e h chip.result chip.ensures in
-    let was = c.flags-was in
-    let told = c.ended_since.ensures ∙ ap (λ (x : ℕ). Ended x) (both-ended a.chip a.ram.now a.queues.now _ chip.result was.result.first was.result.second was.ensures.first was.ensures.second now) in
     (right-over wrapping a.ram.now a.queues.now sounds a.chip a.left.now a.right.now n l.at l.first l.second l.left l.right l.invariant.0 e h ∙ goes-on r.result _ r.ensures _ _ done)

@@ -114,8 +114,4 @@ returns-clause-stems c =
     let done = sym c.is_done.ensures ∙ c.if-not-is_done.false in
     let e = c.second_sounds-sounds.ensures in
     let h = c.loop-done-test.false in
-    let chip = c.with_cores-after in
-    let now = clock-over a.ram.now a.queues.now sounds a.chip a.stems.now a.frames l.done l.one l.two l.stems l.second l.invariant.0 e h chip.result chip.ensures in
-    let was = c.flags-was in
-    let told = c.ended_since.ensures ∙ ap (λ (x : ℕ). Ended x) (both-ended a.chip a.ram.now a.queues.now a.frames chip.result was.result.first was.result.second was.ensures.first was.ensures.second now) in
     (stems-over a.ram.now a.queues.now sounds a.chip a.stems.now a.frames l.done l.one l.two l.stems l.second l.invariant.0 e h ∙ goes-on r.result _ r.ensures _ _ done)
