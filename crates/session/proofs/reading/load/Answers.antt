@@ -19,5 +19,4 @@ pub returns-clause-queues : goal.returns-clause-queues
 returns-clause-queues c =
     let v = c.read_voice-d in
     let k = c.args.voice / num_channels in
-    let core = core_of c.args.chip c.args.voice in
     let n = ((chip-fits c.args.chip c.well_formed.0.1.1).each k (omega (arith, c.requires.0))).sized.wavetables in (queues-loaded _ c.args.voice c.requires.0 c.args.queues.now v.new.queue c.requires.1 v.ensures.queue)

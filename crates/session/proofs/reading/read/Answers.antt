@@ -40,16 +40,12 @@ returns-then-not-accepted-clause-queues c =
 
 pub load-requires : goal.load-requires
 load-requires c =
-    let l = c.before.before in
-    let k = l.before.before in
     let a = c.args in
     (read_named a.stored a.chip.version a.text.now _ (sym c.check_voice-line.ensures.result ∙ c.in-Voice.is), c.if-queues-ne-CHIP_QUEUES.false)
 
 pub returns-in-Voice-clause-called : goal.returns-in-Voice-clause-called
 unfolding voice_read_called voice_read_queues
 returns-in-Voice-clause-called c =
-    let l = c.before.before.before.before.before in
-    let k = l.before.before in
     let a = c.args in
     let e = sym c.accepted.ensures ∙ c.if-not-accepted.false in
     let n = c.if-queues-ne-CHIP_QUEUES.false in
@@ -60,8 +56,6 @@ returns-in-Voice-clause-called c =
 pub returns-in-Voice-clause-queues : goal.returns-in-Voice-clause-queues
 unfolding voice_read_called voice_read_queues
 returns-in-Voice-clause-queues c =
-    let l = c.before.before.before.before.before in
-    let k = l.before.before in
     let a = c.args in
     let e = sym c.accepted.ensures ∙ c.if-not-accepted.false in
     let n = c.if-queues-ne-CHIP_QUEUES.false in
@@ -72,8 +66,6 @@ returns-in-Voice-clause-queues c =
 pub returns-in-Malformed-clause-called : goal.returns-in-Malformed-clause-called
 unfolding voice_read_called voice_read_queues
 returns-in-Malformed-clause-called c =
-    let l = c.before.before in
-    let k = l.before.before in
     let a = c.args in
     let e = sym c.accepted.ensures ∙ c.if-not-accepted.false in
     let n = c.if-queues-ne-CHIP_QUEUES.false in
@@ -84,8 +76,6 @@ returns-in-Malformed-clause-called c =
 pub returns-in-Malformed-clause-queues : goal.returns-in-Malformed-clause-queues
 unfolding voice_read_called voice_read_queues
 returns-in-Malformed-clause-queues c =
-    let l = c.before.before in
-    let k = l.before.before in
     let a = c.args in
     let e = sym c.accepted.ensures ∙ c.if-not-accepted.false in
     let n = c.if-queues-ne-CHIP_QUEUES.false in
@@ -96,8 +86,6 @@ returns-in-Malformed-clause-queues c =
 pub returns-in-Queued-clause-called : goal.returns-in-Queued-clause-called
 unfolding voice_read_called voice_read_queues
 returns-in-Queued-clause-called c =
-    let l = c.before in
-    let k = l.before.before in
     let a = c.args in
     let e = sym c.accepted.ensures ∙ c.if-not-accepted.false in
     let n = c.if-queues-ne-CHIP_QUEUES.false in
@@ -108,8 +96,6 @@ returns-in-Queued-clause-called c =
 pub returns-in-Queued-clause-queues : goal.returns-in-Queued-clause-queues
 unfolding voice_read_called voice_read_queues
 returns-in-Queued-clause-queues c =
-    let l = c.before in
-    let k = l.before.before in
     let a = c.args in
     let e = sym c.accepted.ensures ∙ c.if-not-accepted.false in
     let n = c.if-queues-ne-CHIP_QUEUES.false in
