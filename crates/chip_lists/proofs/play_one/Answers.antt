@@ -24,10 +24,7 @@ second_call-other-requires-clause-fact_3 c =
     let g = c.requires.fact_2 in
     let r = c.play-played in
     let k = r.auto in
-    let low = lower_long a.queues.now g.lent in
-    let high = upper_long a.queues.now g.lent in
     let ok = core-accepts a.chip (length a.ram.now) g.accepted 1 (omega arith) in
-    let e = upper-slice r.new.queues (drop queue_buffer a.queues.now) (k.queues ∙ low) high in
     let l = lent_first a.chip a.ram.now a.queues.now a.values.now in
     let n = one-frames a.kinds.now a.addresses.now 0 l c.requires.fact_1.0 c.requires.fact_1.1 c.requires.fact_1.2 in (ap (accepts_core (core_at a.chip 1) a.chip.version) k.ram ∙ ok)
 
@@ -35,12 +32,6 @@ pub second_call-other-requires-clause-fact_4 : goal.second_call-other-requires-c
 second_call-other-requires-clause-fact_4 c =
     let a = c.args in
     let g = c.requires.fact_2 in
-    let r = c.play-played in
-    let k = r.auto in
-    let low = lower_long a.queues.now g.lent in
-    let high = upper_long a.queues.now g.lent in
-    let ok = core-accepts a.chip (length a.ram.now) g.accepted 1 (omega arith) in
-    let e = upper-slice r.new.queues (drop queue_buffer a.queues.now) (k.queues ∙ low) high in
     let l = lent_first a.chip a.ram.now a.queues.now a.values.now in
     let n = one-frames a.kinds.now a.addresses.now 0 l c.requires.fact_1.0 c.requires.fact_1.1 c.requires.fact_1.2 in (g.alike ∙ g.enough ∙ ap (λ (m : ℕ). stems_per_frame * m) n)
 
