@@ -1,6 +1,7 @@
 // The frames of a log, counted before it is played.
 use crate::playing::settled;
 use crate::{FRAMES, Run};
+use program::Input;
 use std::fs::File;
 
 // What is known of a log ahead: its frames, more than any file has where they are not known, or that it is not whole.
@@ -67,12 +68,30 @@ fn frames_in(log: &[u8]) -> u64 {
     frames
 }
 
-// Fills the input buffer. Of a log that ends within it the frames are known.
-pub(crate) fn read_ahead(rt: &HostRuntime, input: &mut [u8]) -> Ahead {
-    let filled = program::read_full(&mut rt.stdin(), &mut *input);
-    let mut frames = wav::UNKNOWN;
+// The frames of a log that has ended behind so many bytes of a buffer; not known where it filled the buffer.
+fn frames_of(input: &[u8], filled: usize) -> u64 {
     if filled < input.len() {
-        frames = frames_in(num::part(&*input, 0, filled));
+        return frames_in(num::part(input, 0, filled));
+    }
+    wav::UNKNOWN
+}
+
+// Reads until the input buffer is full, the input has ended or cannot be read. Of a log that ends within it the frames are known.
+pub(crate) fn read_ahead(rt: &HostRuntime, input: &mut [u8]) -> Ahead {
+    let mut filled = 0;
+    let mut frames = wav::UNKNOWN;
+    let mut turns = input.len();
+    while 0 < turns {
+        let read = program::read_behind(rt, &mut *input, filled);
+        if let Input::More(more) = read {
+            filled = more;
+            turns -= 1;
+        } else {
+            if let Input::End = read {
+                frames = frames_of(&*input, filled);
+            }
+            turns = 0;
+        }
     }
     Ahead { filled, frames }
 }
