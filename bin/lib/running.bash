@@ -113,30 +113,31 @@ open_input() {
     fi
 }
 
-# Descriptor 9 is where the program says what its output does not tell. s3w2-load tells there which line of a state it refused, which
-# belongs into the words of the refusal: what it says is kept, in a file without a name, and said at its end.
+# Descriptor 9 is where the program says what its output does not tell. What it says is kept, in a file without a name, and said at its
+# end: s3w2-load tells there which line of a state it refused, which belongs into the words of the refusal, and that the output cannot be
+# written is for this command to say, which knows why.
 open_words() {
     local file
     exec 9>&2
-    [ "$crate" = s3w2_load ] && file=$(mktemp 2>/dev/null) || return 0
+    file=$(mktemp 2>/dev/null) || return 0
     kept_words=yes
-    exec 9> "$file" 10< "$file"
+    exec 9<> "$file"
     rm -f -- "$file"
 }
 
-# The line of the state that was refused; any other words go to standard error.
+# The line of the state that was refused; what is said in the words of `ended` is left to it; any other words go to standard error.
 state_line='' old_state='' kept_words=no
 take_words() {
     local line
     [ "$kept_words" = yes ] || return 0
-    while IFS= read -r line <&10; do
+    while IFS= read -r line || [ -n "$line" ]; do
         case $line in
+        *': the output cannot be written') [ "$passed" != 0 ] || printf '%s\n' "$line" >&2 ;;
         's3w2-load: line '*' of the state') state_line=${line#s3w2-load: line }; state_line=${state_line%% *} ;;
         's3w2-load: a state of nine lines'*) old_state=${line#s3w2-load: } ;;
         *) printf '%s\n' "$line" >&2 ;;
         esac
-    done
-    exec 10<&-
+    done < /dev/fd/9
 }
 
 # sqv4-dump reads a long file twice: what cannot be read again is put into a file first.
@@ -153,10 +154,10 @@ readable_again() {
 # Starts the program on one input, or on several FILEs one behind the other.
 start() {
     if [ ${#files[@]} -eq 0 ]; then
-        "$binary" "${options[@]}" <&4 >&7 2>&9 3>&- 4<&- 7>&- 8<&- 9>&- 10<&- &
+        "$binary" "${options[@]}" <&4 >&7 2>&9 3>&- 4<&- 7>&- 8<&- 9>&- &
     else
-        { cat -- "${files[@]}" <&4 || [ $? -gt 128 ] || kill -s USR1 $$; } 3>&- 7>&- 8<&- 9>&- 10<&- |
-            "$binary" "${options[@]}" >&7 2>&9 3>&- 4<&- 7>&- 8<&- 9>&- 10<&- &
+        { cat -- "${files[@]}" <&4 || [ $? -gt 128 ] || kill -s USR1 $$; } 3>&- 7>&- 8<&- 9>&- |
+            "$binary" "${options[@]}" >&7 2>&9 3>&- 4<&- 7>&- 8<&- 9>&- &
     fi
     program=$!
 }
@@ -167,13 +168,13 @@ run() {
     open_input
     readable_again
     open_words
-    coproc FILTER { hand_on; } 9>&- 10<&-
+    coproc FILTER { hand_on; } 9>&-
     # the two ends of a coprocess are not handed on to what runs beside it, their copies are
     exec 7>&"${FILTER[1]}" 8<&"${FILTER[0]}" {FILTER[1]}>&- {FILTER[0]}<&-
     for signal in HUP INT TERM; do trap "stop $signal" "$signal"; done
     trap 'unread=yes' USR1
     start
-    exec 7>&- 3>&- 9>&-
+    exec 7>&- 3>&-
     {
         wait "$program"
         status=$?
@@ -188,6 +189,7 @@ run() {
     done
     [ -z "$stopped" ] || { trap - "$stopped"; kill -s "$stopped" $$; }
     take_words
+    exec 9>&-
     ended
 }
 
