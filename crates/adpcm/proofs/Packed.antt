@@ -74,20 +74,3 @@ narrow-code bs at w h =
     let none : w / 8 ≡ 0 = omega arith in
     let all : w % 8 ≡ w = omega arith in
     rw (none, all, or_zero_l) (ap (λ (b : ℕ). field bs b w) (N.add-zero at))
-
--- a product by halves of 32 bits
-pub by-halves : (a b : ℕ) → (a % 4294967296 * (b % 4294967296) + (a / 4294967296 * (b % 4294967296) % 4294967296 + a % 4294967296 * (b / 4294967296) % 4294967296) % 4294967296 * 4294967296) % 2 ^ 64 ≡ a * b % 2 ^ 64
-by-halves a b =
-    rounded (a / 4294967296 * (b / 4294967296)) (a / 4294967296 * (b % 4294967296)) (a % 4294967296 * (b / 4294967296)) (a % 4294967296 * (b % 4294967296))
-    ∙ ap (λ (n : ℕ). n % 2 ^ 64) (sym (expanded (a / 4294967296) (a % 4294967296) (b / 4294967296) (b % 4294967296)))
-    ∙ ap (λ (n : ℕ). n * (4294967296 * (b / 4294967296) + b % 4294967296) % 2 ^ 64) (halves a)
-    ∙ ap (λ (n : ℕ). a * n % 2 ^ 64) (halves b)
-  where
-    halves : (n : ℕ) → 4294967296 * (n / 4294967296) + n % 4294967296 ≡ n
-    halves n = omega arith
-
-    expanded : (h l x y : ℕ) → (4294967296 * h + l) * (4294967296 * x + y) ≡ 4294967296 * (4294967296 * (h * x) + h * y) + (4294967296 * (l * x) + l * y)
-    expanded h l x y = simp (N.add-mul, N.mul-add, N.mul_assoc) (omega (arith, N.mul_left_comm h 4294967296 x, N.mul_left_comm l 4294967296 x))
-
-    rounded : (h p q l : ℕ) → (l + (p % 4294967296 + q % 4294967296) % 4294967296 * 4294967296) % 2 ^ 64 ≡ (4294967296 * (4294967296 * h + p) + (4294967296 * q + l)) % 2 ^ 64
-    rounded h p q l = omega arith

@@ -1,18 +1,17 @@
 -- SQV4's codes: what one does to the decoder, how it is packed, and the volume rules.
-use Rattle.std.specs.Prelude.{ℕ, zero, suc, ◌+◌, ◌*◌, ◌/◌, ◌%◌, ◌^◌, Bool, true, false, cond, List, [], ◌∷◌, ℤ, pos, negsuc, ◌+ℤ◌, ◌*ℤ◌, ◌==◌, bit_or, int_div, int_lt, slice_index, slice_index_or, unsigned_abs}
+use Rattle.std.specs.Prelude.{ℕ, zero, suc, ◌+◌, ◌*◌, ◌/◌, ◌%◌, ◌^◌, cond, List, [], ◌∷◌, ℤ, pos, negsuc, ◌+ℤ◌, ◌*ℤ◌, ◌==◌, bit_or, int_div, int_lt, slice_index, slice_index_or, unsigned_abs, Result, Ok, Err}
 use Rattle.std.specs.Int.Signed.{shr_z}
 use Rattle.num.specs.Integers.{signed, clamp16}
 use Rattle.num.specs.Bytes.{field}
 use Rattle.adpcm.specs.declared.Variant.{Variant}
 use Rattle.adpcm.specs.declared.Variant.TheVariants.{H, L, LPlus}
-use Rattle.adpcm.specs.declared.VariantByte.{VariantByte}
-use Rattle.adpcm.specs.declared.VariantByte.TheVariants.{Known, Unknown}
+use Rattle.adpcm.specs.declared.UnknownVariant.{UnknownVariant}
 use Rattle.adpcm.specs.declared.State.{State}
 use Rattle.adpcm.specs.Ima.{step_size, difference, index_table, index_after, ima_at}
 
 -- ---- variants
-abbrev pub variant_of : ℕ → VariantByte
-variant_of b = cond (b == 0) (Known H) (cond (b == 1) (Known L) (cond (b == 2) (Known LPlus) Unknown))
+abbrev pub variant_of : ℕ → Result Variant UnknownVariant
+variant_of b = cond (b == 0) (Ok H) (cond (b == 1) (Ok L) (cond (b == 2) (Ok LPlus) (Err (record { byte = b }))))
 
 -- a variant's number in a header
 abbrev pub variant_number : Variant → ℕ

@@ -8,24 +8,35 @@ ghost use Rattle.adpcm.specs.Codes.{variant_of, bits_of, payload_bytes, fragment
 ghost use Rattle.adpcm.specs.Codes.{level_difference, delta_at, delta_of, adjust_of, update_of, decode_at, decode_code, applied_volume};
 ghost use Rattle.adpcm.specs.Codes.{legacy_volume, overlaid, code_at, variant_number};
 
-#[derive(Clone, Copy)]
+#[derive(Clone, Copy, Debug, PartialEq, Eq)]
 pub enum Variant {
     H,
     L,
     LPlus,
 }
 
-// A variant's byte in a file's header.
-#[derive(Clone, Copy)]
-pub enum VariantByte {
-    Known(Variant),
-    Unknown,
+// A byte that no variant has in a file's header.
+#[derive(Clone, Copy, Debug, PartialEq, Eq)]
+pub struct UnknownVariant {
+    pub byte: u8,
 }
 
 #[derive(Clone, Copy)]
 pub struct State {
     pub predictor: i16,
     pub index: usize,
+}
+
+// The state that a decoder starts in.
+impl Default for State {
+    ghost is_default = { λ state. state ≡ record { predictor = pos 0; index = 0 } };
+
+    fn default() -> State {
+        State {
+            predictor: 0,
+            index: 0,
+        }
+    }
 }
 
 const STEPS: [u16; 89] = [
@@ -36,30 +47,36 @@ const STEPS: [u16; 89] = [
     10442, 11487, 12635, 13899, 15289, 16818, 18500, 20350, 22385, 24623, 27086, 29794, 32767,
 ];
 
-impl Variant {
-    // The variant of a header's byte, or none.
-    pub fn try_from(value: u8) -> VariantByte
-        ensures { result ≡ variant_of value }
-    {
-        match value {
-            0 => VariantByte::Known(Variant::H),
-            1 => VariantByte::Known(Variant::L),
-            2 => VariantByte::Known(Variant::LPlus),
-            _ => VariantByte::Unknown,
-        }
-    }
+// The variant's byte in a header.
+impl From<Variant> for u8 {
+    ghost from_gives = { λ variant byte. byte ≡ variant_number variant };
 
-    // The variant's byte in a header.
-    pub fn number(self) -> u8
-        ensures { result ≡ variant_number self }
-    {
-        match self {
+    fn from(variant: Variant) -> u8 {
+        match variant {
             Variant::H => 0,
             Variant::L => 1,
             Variant::LPlus => 2,
         }
     }
+}
 
+// The variant of such a byte.
+impl TryFrom<u8> for Variant {
+    type Error = UnknownVariant;
+
+    ghost try_from_gives = { λ byte found. found ≡ variant_of byte };
+
+    fn try_from(byte: u8) -> Result<Variant, UnknownVariant> {
+        match byte {
+            0 => Ok(Variant::H),
+            1 => Ok(Variant::L),
+            2 => Ok(Variant::LPlus),
+            _ => Err(UnknownVariant { byte }),
+        }
+    }
+}
+
+impl Variant {
     // The bits of a code.
     pub fn bits(self) -> usize
         ensures { result ≡ bits_of self }
@@ -297,26 +314,14 @@ fn bits_in(input: &[u8], at: usize, within: usize, width: usize) -> u8
     (((low + 256 * high) >> (within as u32)) & mask) as u8
 }
 
-// The product without what passes 64 bits.
-fn wrapping_mul(a: usize, b: usize) -> usize
-    ensures { result ≡ a * b % 2 ^ 64 }
-{
-    let low = a % 4294967296;
-    let under = b % 4294967296;
-    let mixed = (a / 4294967296 * under) % 4294967296 + (low * (b / 4294967296)) % 4294967296;
-    std::num::wrapping_add_usize(low * under, mixed % 4294967296 * 4294967296)
-}
-
 // Bytes from bit `within` of a byte on, one over the other.
 fn overlay(input: &[u8], at: usize, within: usize, bytes: usize) -> u8
     requires { (within ≤ 7) × (at + bytes < 2 ^ 64) }
     ensures { result ≡ overlaid input.now (8 * at + within) bytes }
 {
     let mut code = 0;
-    let mut i = 0;
-    while i < bytes {
+    for i in 0..bytes {
         code |= bits_in(input, at + i, within, 8);
-        i += 1;
     }
     code
 }
@@ -325,7 +330,7 @@ fn overlay(input: &[u8], at: usize, within: usize, bytes: usize) -> u8
 pub fn unpack_code(input: &[u8], sample: usize, bits: usize) -> u8
     ensures { result ≡ code_at input.now sample bits }
 {
-    let first = wrapping_mul(sample, bits);
+    let first = sample.wrapping_mul(bits);
     let at = first / 8;
     let within = first % 8;
     let bytes = bits / 8;

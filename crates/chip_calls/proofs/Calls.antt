@@ -1,4 +1,5 @@
 -- Each call of the chip on a good world is the list's call. Assumes nothing.
+use Rattle.std.specs.Prelude.{Ok}
 use mathlib.Core.Path.{◌≡◌, refl, sym, ap, ap₂, ◌∙◌, subst}
 use mathlib.Core.Bool.{Bool, true, false, cond}
 use mathlib.Core.List.{List, [], ◌∷◌, map}
@@ -22,9 +23,8 @@ use Rattle.voices.proofs.Voices.{length-queues, length-register-queues, fresh-si
 use Rattle.voices.proofs.Accepting as cores
 use Rattle.s3w2.specs.declared.Chip.{Chip}
 use Rattle.s3w2.specs.declared.Called.{Called}
-use Rattle.s3w2.specs.declared.Answer.{Answer}
-use Rattle.s3w2.specs.declared.Answer.TheVariants.{Done, Byte}
-use Rattle.s3w2.specs.Answers.{unless, answered, called}
+use Rattle.s3w2.specs.declared.Returned.TheVariants.{Done, Byte}
+use Rattle.s3w2.specs.Answers.{Answer, Checked, unless, answered, called}
 use Rattle.s3w2.specs.Answers as answers
 use Rattle.s3w2.specs.Chips.{no_core, core_at, with_core_at, core_queues, zeroed}
 use Rattle.s3w2.specs.Chips as code
@@ -60,8 +60,8 @@ pub record Agrees (y : Outcome Machine list.CallAnswer) (x : Outcome SlotPair li
   pub long : length y.next.queues ≡ chip_queues
 
 -- a call that is not turned away
-pub through : (f : Answer → Outcome Machine list.CallAnswer) (r : Answer) (x : Outcome SlotPair list.CallAnswer) → r ≡ Done → Agrees (f Done) x → Agrees (f r) x
-through f r x e t = subst (λ (a : Answer). Agrees (f a) x) (sym e) t
+pub through : (f : Checked → Outcome Machine list.CallAnswer) (r : Checked) (x : Outcome SlotPair list.CallAnswer) → r ≡ Ok tt → Agrees (f (Ok tt)) x → Agrees (f r) x
+through f r x e t = subst (λ (a : Checked). Agrees (f a) x) (sym e) t
 
 -- ---- cores put in their places
 pub sized-put : (chip : Chip) → SizedChip chip → (k : ℕ) (core : Core) → SizedCore core → SizedChip (with_core_at chip k core)
@@ -134,11 +134,11 @@ module _ (t : Texts) (chip : Chip) (ram : List ℕ) (queues : List ℤ) (held : 
 
     -- with its entries of the queue buffer
     on-queues : (q : List ℤ → List ℤ) → (Here k → length (q (own k)) ≡ queue_buffer) → (Here k → slot_chip_of version (f (core k)) ram (q (own k)) ≡ g (own_chip k))
-        → Agrees (by (answered (code.on_core k f chip) Done) ram (code.on_queues k q queues) []) (record { next = on_core k g w; answer = list.replies list.done })
+        → Agrees (by (answered (code.on_core k f chip) (Ok Done)) ram (code.on_queues k q queues) []) (record { next = on_core k g w; answer = list.replies list.done })
     on-queues q m h = go (ltb k num_cores) refl
       where
         go : (b : Bool) → ltb k num_cores ≡ b
-            → Agrees (by (answered (cond b (with_core_at chip k (f (core k))) chip) Done) ram (cond b (sets queues (k * queue_buffer) (q (own k))) queues) []) (record { next = on_core k g w; answer = list.replies list.done })
+            → Agrees (by (answered (cond b (with_core_at chip k (f (core k))) chip) (Ok Done)) ram (cond b (sets queues (k * queue_buffer) (q (own k))) queues) []) (record { next = on_core k g w; answer = list.replies list.done })
         go true l =
             let i : k < num_cores = ltb-true k num_cores l in
             record {
@@ -167,7 +167,7 @@ module _ (t : Texts) (chip : Chip) (ram : List ℕ) (queues : List ℤ) (held : 
 
   -- ---- a call on both cores
   on-both : (f : Core → Core) (g : SlotChip → SlotChip) → Alike g → (next : SguVersion) (after : List ℕ) → ((k : ℕ) → Here k → slot_chip_of next (f (core k)) after (own k) ≡ g (own_chip k)) → ((k : ℕ) → Here k → SizedCore (f (core k)))
-      → is_ram_length (length after) ≡ true → Agrees (by (answered (record { version = next; cores = f (core 0) ∷ f (core 1) ∷ [] }) Done) after queues []) (record { next = on_all g w; answer = list.replies list.done })
+      → is_ram_length (length after) ≡ true → Agrees (by (answered (record { version = next; cores = f (core 0) ∷ f (core 1) ∷ [] }) (Ok Done)) after queues []) (record { next = on_all g w; answer = list.replies list.done })
   on-both f g u next after h s a = record {
     next = cores-put version chip.cores ram queues g u next (f (core 0) ∷ f (core 1) ∷ []) after at;
     answer = refl;
@@ -194,27 +194,27 @@ module _ (t : Texts) (chip : Chip) (ram : List ℕ) (queues : List ℤ) (held : 
   pub tied-reset-channel : (k ch : ℕ) → Agrees (by (reset_channel_called chip k ch) ram queues []) (ran (list.reset_channel k ch))
   unfolding reset_channel_called run
   tied-reset-channel k ch =
-      lent_none _ _ (on-core k (λ c. reset_channel_at c ch) (chips.reset_channel slots ch) (λ h. (cores.reset-kept (core k) version n (accepted k h) ch).sized) Done _ refl
+      lent_none _ _ (on-core k (λ c. reset_channel_at c ch) (chips.reset_channel slots ch) (λ h. (cores.reset-kept (core k) version n (accepted k h) ch).sized) (Ok Done) _ refl
       (λ h. world-reset-channel (core k) (own k) (sized_core k h) (long-own k h) ch version ram))
 
   pub tied-read-register : (k address : ℕ) → Agrees (by (read_register_called chip k address) ram queues []) (ran (list.read_register k address))
   unfolding read_register_called run
   tied-read-register k address =
-      lent_none _ _ (on-core k (λ c. after_read_register c address) (chips.after_read_register slots address) (λ h. (cores.read-register-kept (core k) version n (accepted k h) address).sized) (Byte (code.of_core k 0 (λ c. peek_register version c address) chip)) _
+      lent_none _ _ (on-core k (λ c. after_read_register c address) (chips.after_read_register slots address) (λ h. (cores.read-register-kept (core k) version n (accepted k h) address).sized) (Ok (Byte (code.of_core k 0 (λ c. peek_register version c address) chip))) _
       (ap (λ (x : ℕ). list.replies (list.byte x)) (of-core k 0 (λ c. peek_register version c address) (chips.peek_register slots address) (told-peek version (core k) ram (own k) address)))
       (λ h. world-after-register (core k) (own k) (sized_core k h) (long-own k h) version ram address))
 
   pub tied-read-control : (k ch offset : ℕ) → Agrees (by (read_channel_control_called chip k ch offset) ram queues []) (ran (list.read_channel_control k ch offset))
   unfolding read_channel_control_called run
   tied-read-control k ch offset =
-      lent_none _ _ (on-core k (λ c. after_read_channel c ch offset) (chips.after_read_channel slots ch offset) (λ h. (cores.read-channel-kept (core k) version n (accepted k h) ch offset).sized) (Byte (code.of_core k 0 (λ c. read_channel_control version c ch offset) chip)) _
+      lent_none _ _ (on-core k (λ c. after_read_channel c ch offset) (chips.after_read_channel slots ch offset) (λ h. (cores.read-channel-kept (core k) version n (accepted k h) ch offset).sized) (Ok (Byte (code.of_core k 0 (λ c. read_channel_control version c ch offset) chip))) _
       (ap (λ (x : ℕ). list.replies (list.byte x)) (of-core k 0 (λ c. read_channel_control version c ch offset) (chips.read_channel_control slots ch offset) (told-control version (core k) ram (own k) ch offset)))
       (λ h. world-after-read (core k) (own k) (sized_core k h) (long-own k h) ch version ram offset))
 
   pub tied-pcm : (k ch offset value : ℕ) → value < 256 → Agrees (by (write_channel_pcm_reg_called chip k ch offset value) ram queues []) (ran (list.write_channel_pcm_reg k ch offset value))
   unfolding write_channel_pcm_reg_called run
   tied-pcm k ch offset value b =
-      lent_none _ _ (on-core k (λ c. write_channel_pcm_reg c ch offset value) (chips.write_channel_pcm_reg slots ch offset value) (λ h. (cores.pcm-kept (core k) version n (accepted k h) ch offset value b).sized) Done _ refl
+      lent_none _ _ (on-core k (λ c. write_channel_pcm_reg c ch offset value) (chips.write_channel_pcm_reg slots ch offset value) (λ h. (cores.pcm-kept (core k) version n (accepted k h) ch offset value b).sized) (Ok Done) _ refl
       (λ h. world-pcm (core k) (own k) (sized_core k h) (long-own k h) ch version ram offset value))
 
   -- a wavetable byte, by its place among all of its core
@@ -233,14 +233,14 @@ module _ (t : Texts) (chip : Chip) (ram : List ℕ) (queues : List ℤ) (held : 
   tied-wave k ch at value l = lent_none _ _ (go (ltb ch num_channels) refl)
     where
       go : (b : Bool) → ltb ch num_channels ≡ b
-          → Agrees (by (answered (cond b (code.on_core k (λ c. write_wavetable c (ch * 256 + at) value) chip) chip) Done) ram queues []) (record { next = on_core k (chips.write_channel_wavetable slots ch at value) w; answer = list.replies list.done })
+          → Agrees (by (answered (cond b (code.on_core k (λ c. write_wavetable c (ch * 256 + at) value) chip) chip) (Ok Done)) ram queues []) (record { next = on_core k (chips.write_channel_wavetable slots ch at value) w; answer = list.replies list.done })
       go true e =
-          on-core k (λ c. write_wavetable c (ch * 256 + at) value) (chips.write_channel_wavetable slots ch at value) (λ h. (cores.wavetable-kept (core k) version n (accepted k h) (ch * 256 + at) value).sized) Done _ refl
+          on-core k (λ c. write_wavetable c (ch * 256 + at) value) (chips.write_channel_wavetable slots ch at value) (λ h. (cores.wavetable-kept (core k) version n (accepted k h) (ch * 256 + at) value).sized) (Ok Done) _ refl
           (λ h. wave-at k h ch at value l (ltb-true ch 8 e))
       go false e = stays _ _ (leaves k (chips.write_channel_wavetable slots ch at value) (λ h. wave-none k ch at value (ltb-false ch 8 e))) refl
 
   -- ---- calls that only tell: the world stays
-  tells : (r a : Answer) (y : list.CallAnswer) → r ≡ Done → list.replies (reply_of a) ≡ y → Agrees (only_tells chip ram queues (answers.told r a)) (record { next = w; answer = y })
+  tells : (r : Checked) (a : Answer) (y : list.CallAnswer) → r ≡ Ok tt → list.replies (reply_of a) ≡ y → Agrees (only_tells chip ram queues (answers.told r a)) (record { next = w; answer = y })
   tells r a y e f = through (λ z. only_tells chip ram queues (answers.told z a)) r _ e (stays _ _ refl f)
 
   pub tied-peek : (k address : ℕ) → Agrees (only_tells chip ram queues (peek_register_answer chip k address)) (ran (list.peek_register k address))
@@ -340,7 +340,7 @@ module _ (t : Texts) (chip : Chip) (ram : List ℕ) (queues : List ℤ) (held : 
       allowed = ap is_ram_length (length-set ram address value) ∙ held.allowed
 
       go : (b : Bool) → ltb address n ≡ b
-          → Agrees (by (answered (cond b (code.on_both (λ c. after_ram_write c address) chip) chip) Done) (set ram address value) queues []) (record { next = on_all (chips.write_pcm_ram slots address value) w; answer = list.replies list.done })
+          → Agrees (by (answered (cond b (code.on_both (λ c. after_ram_write c address) chip) chip) (Ok Done)) (set ram address value) queues []) (record { next = on_all (chips.write_pcm_ram slots address value) w; answer = list.replies list.done })
       go true e =
           on-both (λ c. after_ram_write c address) (chips.write_pcm_ram slots address value) (alike-write-ram slots address value) version (set ram address value) (λ k h. world-ram (core k) (own k) (sized_core k h) version ram address value e)
           (λ k h. (cores.ram-kept (core k) version n (accepted k h) address).sized) allowed

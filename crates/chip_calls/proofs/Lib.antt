@@ -4,5 +4,4 @@ pub mod Sounds
 pub mod Made
 pub mod Lines
 pub mod Every
-pub mod Left
 pub mod Listed

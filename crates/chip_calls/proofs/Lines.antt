@@ -13,22 +13,19 @@ use borrow.Author.Tests.{le-ltb}
 use Rattle.sizes.specs.Sizes.{num_channels}
 use Rattle.cores.specs.Sizes.{num_cores, chip_voices}
 use Rattle.line_fields.specs.Text.{written_of, put_of, line_text}
-use Rattle.line_fields.specs.declared.Written.TheVariants as lines
 use Rattle.version.specs.declared.SguVersion.{SguVersion}
 use Rattle.session_lines.specs.Numbers.{field_numbers}
 use Rattle.session_lines.specs.Lines.{NumberedVoice, voice_text, ReadVoice, voice, malformed, queued, read_as, channel_after, table_after}
 use Rattle.session_lines.proofs.Taken.{read_told}
-use Rattle.session_lines.specs.Head.{head_text, read_head}
-use Rattle.session_lines.specs.declared.HeadLine.{HeadLine}
-use Rattle.session_lines.specs.declared.HeadLine.TheVariants as heads
+use Rattle.session_lines.specs.Head.{head_text, read_head, HeadLine}
 use Rattle.voice.specs.declared.Channel.{Channel}
 use Rattle.voices.specs.Core.{channel_at}
 use Rattle.voices.specs.Own as own
 use Rattle.voices.specs.declared.Core.{Core}
 use Rattle.s3w2.specs.declared.Chip.{Chip}
 use Rattle.s3w2.specs.Chips.{core_at, core_queues}
-use Rattle.session.specs.declared.LineAnswer.{LineAnswer}
-use Rattle.session.specs.declared.LineAnswer.TheVariants.{RamLength, NotAccepted, QueueBuffer}
+use Rattle.s3w2.specs.declared.Refusal.TheVariants.{RamLength, NotAccepted, QueueBuffer}
+use Rattle.session.specs.declared.LineRefusal.TheVariants.{OfChip}
 use Rattle.session.specs.declared.LineCalled.{LineCalled}
 use Rattle.session.specs.Answers as answers
 use Rattle.session.specs.Heads.{write_head_answer, write_head_text, version_called, head_called, read_head_called}
@@ -52,6 +49,10 @@ use Rattle.session_texts.proofs.Read.{channel-told, loaded-told, session-is-ok}
 use Rattle.chip_calls.specs.Ties.{slot_pair, GoodMachine, wrote_by, read_by}
 use Rattle.chip_calls.proofs.Accepting.{core-good, accepts, state-accepted}
 use Rattle.chip_calls.proofs.Calls.{Agrees, sized-put, stays, tied-version}
+use Rattle.std.specs.Prelude.{Ok, Err}
+use Rattle.session_lines.specs.declared.SessionHead.TheVariants.{Version, Sized}
+use Rattle.line_fields.specs.declared.FieldError.TheVariants.{Malformed}
+use Rattle.line_fields.specs.declared.RoomError.TheVariants.{TextBuffer}
 
 no-line : (v : ℕ) (c : Channel) (wavetable : List ℕ) (q : List ℤ) → chip_voices ≤ v → voice_text v c wavetable q ≡ []
 unfolding voice_text
@@ -78,17 +79,17 @@ module _ (chip : Chip) (ram : List ℕ) (queues : List ℤ) (held : GoodMachine 
   writes : (text out : List ℕ) → Agrees (wrote_by chip ram queues (answers.wrote (written_of out text)) (put_of out text)) (list.gives slots session w (list.line_answer text out))
   writes text out = go (leb (length text) (length out))
     where
-      go : (b : Bool) → Agrees (wrote_by chip ram queues (answers.wrote (cond b (lines.Length (length text)) lines.TextBuffer)) (cond b (sets out 0 text) out))
+      go : (b : Bool) → Agrees (wrote_by chip ram queues (answers.wrote (cond b (Ok (length text)) (Err TextBuffer))) (cond b (sets out 0 text) out))
           (list.gives slots session w (cond b (record { reply = list.count (length text); sides = []; text = sets out 0 text; values = [] }) (record { reply = list.refused (15 ∷ []); sides = []; text = out; values = [] })))
       go true = stays session chip ram queues held _ _ refl refl
       go false = stays session chip ram queues held _ _ refl refl
 
-  wrote_as : (a b : LineAnswer) (x y : List ℕ) (z : Outcome SlotPair list.CallAnswer) → a ≡ b → x ≡ y → Agrees (wrote_by chip ram queues b y) z → Agrees (wrote_by chip ram queues a x) z
-  wrote_as a b x y z e f t = subst (λ (p : List ℕ). Agrees (wrote_by chip ram queues a p) z) (sym f) (subst (λ (c : LineAnswer). Agrees (wrote_by chip ram queues c y) z) (sym e) t)
+  wrote_as : (a b : answers.LineAnswer ℕ) (x y : List ℕ) (z : Outcome SlotPair list.CallAnswer) → a ≡ b → x ≡ y → Agrees (wrote_by chip ram queues b y) z → Agrees (wrote_by chip ram queues a x) z
+  wrote_as a b x y z e f t = subst (λ (p : List ℕ). Agrees (wrote_by chip ram queues a p) z) (sym f) (subst (λ (c : answers.LineAnswer ℕ). Agrees (wrote_by chip ram queues c y) z) (sym e) t)
 
   pub tied-write-head : (out : List ℕ) → Agrees (wrote_by chip ram queues (write_head_answer chip (length ram) out) (write_head_text chip (length ram) out)) (ran (list.write_head out))
   unfolding write_head_answer write_head_text run
-  tied-write-head out = wrote_as _ _ _ _ _ (with-ram _ NotAccepted RamLength) (with-ram _ out out) (writes (head_text version (length ram)) out)
+  tied-write-head out = wrote_as _ _ _ _ _ (with-ram _ (Err (OfChip NotAccepted)) (Err (OfChip RamLength))) (with-ram _ out out) (writes (head_text version (length ram)) out)
 
   -- the line of a voice is that of its session's fields; one above 15 has none
   module _ (v : ℕ) where
@@ -116,7 +117,7 @@ module _ (chip : Chip) (ram : List ℕ) (queues : List ℤ) (held : GoodMachine 
   unfolding write_voice_answer write_voice_text run
   tied-write-voice v out =
       wrote_as _ _ _ _ _
-      (with-queues (answers.wrote (written_of out (line_of_voice chip queues v))) NotAccepted QueueBuffer ∙ ap (λ (l : List ℕ). answers.wrote (written_of out l)) (line_same v))
+      (with-queues (answers.wrote (written_of out (line_of_voice chip queues v))) (Err (OfChip NotAccepted)) (Err (OfChip QueueBuffer)) ∙ ap (λ (l : List ℕ). answers.wrote (written_of out l)) (line_same v))
       (with-queues (put_of out (line_of_voice chip queues v)) out out ∙ ap (put_of out) (line_same v))
       (writes (plain_text v (fields_at slots w (v / num_channels) (v % num_channels))) out)
 
@@ -133,14 +134,14 @@ module _ (chip : Chip) (ram : List ℕ) (queues : List ℤ) (held : GoodMachine 
   set_told other = let t = tied-version session chip ram queues held other in record { next = t.next; answer = refl; allowed = t.allowed; sized = t.sized; long = t.long }
 
   head-told : (r : HeadLine) → Agrees (read_by (head_called chip (length ram) r) ram queues) (list.head_told slots session w (head_read r))
-  head-told (heads.Version other) = set_told other
-  head-told (heads.Sized other size) = either (eqb size (length ram)) _ _ _ _ (set_told other) (stays session chip ram queues held _ _ refl refl)
-  head-told (heads.Malformed field) = stays session chip ram queues held _ _ refl refl
+  head-told (Ok (Version other)) = set_told other
+  head-told (Ok (Sized other size)) = either (eqb size (length ram)) _ _ _ _ (set_told other) (stays session chip ram queues held _ _ refl refl)
+  head-told (Err (Malformed field)) = stays session chip ram queues held _ _ refl refl
 
   pub tied-read-head : (text : List ℕ) → Agrees (read_by (read_head_called chip (length ram) text) ram queues) (ran (list.read_head text))
   unfolding read_head_called run
   tied-read-head text =
-      read-as _ _ queues queues _ (with-ram _ (answers.line_answered chip NotAccepted) (answers.line_answered chip RamLength)) refl (head-told (read_head text))
+      read-as _ _ queues queues _ (with-ram _ (answers.line_answered chip (Err (OfChip NotAccepted))) (answers.line_answered chip (Err (OfChip RamLength)))) refl (head-told (read_head text))
 
   -- the voice that a line names
   module _ (v : NumberedVoice) (here : v.number < chip_voices) (is : v.channel ≡ channel_with (plain_voice_of v)) where
@@ -189,7 +190,7 @@ module _ (chip : Chip) (ram : List ℕ) (queues : List ℤ) (held : GoodMachine 
   tied-read : (stored : Bool) (text : List ℕ) → Told version (voice_read (read_as stored version text)) → Agrees (read_by (voice_read_called stored chip queues text) ram (voice_read_queues stored chip queues text)) (list.voice_told slots session w (voice_read (read_as stored version text)))
   unfolding voice_read_called voice_read_queues
   tied-read stored text t =
-      read-as _ _ _ _ _ (with-queues _ (answers.line_answered chip NotAccepted) (answers.line_answered chip QueueBuffer)) (with-queues _ queues queues)
+      read-as _ _ _ _ _ (with-queues _ (answers.line_answered chip (Err (OfChip NotAccepted))) (answers.line_answered chip (Err (OfChip QueueBuffer)))) (with-queues _ queues queues)
       (voice-told (read_as stored version text) t (λ v e. channel-told version v (read_told stored version text v e)))
 
   pub tied-read-voice : (text : List ℕ) → Agrees (read_by (read_voice_called chip queues text) ram (read_voice_queues chip queues text)) (ran (list.read_voice text))

@@ -1,4 +1,5 @@
 -- A list, as `play` leaves it, is its single calls one after the other. Assumes nothing.
+use Rattle.std.specs.Prelude.{Ok}
 use mathlib.Core.Path.{◌≡◌, refl, sym, ap, ap₂, ◌∙◌}
 use mathlib.Core.Bool.{Bool, true, false, cond}
 use mathlib.Core.List.{List, [], ◌∷◌, ◌++◌, append-nil}
@@ -21,9 +22,7 @@ use Rattle.frames.specs.declared.Asked.TheVariants as variants
 use Rattle.frames.specs.Listing.{read_register_kind, asked_of}
 use Rattle.frames.specs.Turning.{Turns, frames}
 use Rattle.frames.proofs.Framing.{frames-long}
-use Rattle.s3w2.specs.declared.Answer.{Answer}
-use Rattle.s3w2.specs.declared.Answer.TheVariants.{Done}
-use Rattle.s3w2.specs.Answers.{unless, answered}
+use Rattle.s3w2.specs.Answers.{Checked, unless, answered}
 use Rattle.s3w2.specs.Chips.{core_at, core_queues}
 use Rattle.s3w2.specs.Refusals.{accepts_chip, refusal, sound_refusal, clock_refusal}
 use Rattle.chip_lists.specs.Plays.{Playing, shown_by, stems_played, clock_played, call_played, calls_played}
@@ -72,7 +71,7 @@ calls-listed kinds addresses s (suc n) =
     call-more kinds addresses (of_playing s) (single_calls kinds addresses n s) n (calls_played kinds addresses n s) (calls-listed kinds addresses s n) (asked_of (get_or kinds n 0))
 
 -- ---- a clock among them: what it gives alone is what the two stem buffers hold after it, frame by frame core 0's and core 1's
-module _ (s : Playing) (n : ℕ) (goes : sound_refusal s.chip (length s.ram) (length s.queues) ≡ Done) where
+module _ (s : Playing) (n : ℕ) (goes : sound_refusal s.chip (length s.ram) (length s.queues) ≡ Ok tt) where
   -- its part of a stem buffer
   abbrev own_stems : List ℤ → List ℤ
   own_stems l = part l (stems_per_frame * s.frames) (stems_per_frame * n)
@@ -89,15 +88,15 @@ module _ (s : Playing) (n : ℕ) (goes : sound_refusal s.chip (length s.ram) (le
 
   put : (k : ℕ) (l : List ℤ) → stems_per_frame * (s.frames + n) ≤ length l → own_stems (stems_played s n k l) ≡ (turns k).stems
   put k l h =
-      ap (λ (r : Answer). own_stems (sets l (stems_per_frame * s.frames) (unless r (own_stems l) (turns k).stems))) goes
+      ap (λ (r : Checked). own_stems (sets l (stems_per_frame * s.frames) (unless r (own_stems l) (turns k).stems))) goes
       ∙ part-sets-in (turns k).stems l (stems_per_frame * s.frames) (stems_per_frame * n) (long k) (omega arith)
 
-  clocks : clock_refusal s.chip (length s.ram) (length s.queues) n (length (clear_stems n)) ≡ Done
+  clocks : clock_refusal s.chip (length s.ram) (length s.queues) n (length (clear_stems n)) ≡ Ok tt
   clocks = ap (refusal (is_ram_length (length s.ram)) (eqb (length s.queues) chip_queues) (accepts_chip s.chip (length s.ram))) (eq-eqb (length (clear_stems n)) (chip_stems * n) (length-replicate (chip_stems * n) (pos 0))) ∙ goes
 
   pub clock-listed : stems_per_frame * (s.frames + n) ≤ length s.stems → stems_per_frame * (s.frames + n) ≤ length s.others
       → (code (of_playing s) (clock n (clear_stems n))).answer.sides ≡ paired n (own_stems (clock_played s n).stems) (own_stems (clock_played s n).others) ∷ []
   unfolding code clock_stems
   clock-listed h k =
-      ap (λ (r : Answer). unless r (clear_stems n) (paired n (turns 0).stems (turns 1).stems) ∷ []) clocks
+      ap (λ (r : Checked). unless r (clear_stems n) (paired n (turns 0).stems (turns 1).stems) ∷ []) clocks
       ∙ sym (ap₂ (λ (x y : List ℤ). paired n x y ∷ []) (put 0 s.stems h) (put 1 s.others k))

@@ -1,4 +1,5 @@
 -- The chip's sound on a good world is the list's: one voice's tick, frames of stems, frames mixed to two sides. Assumes nothing.
+use Rattle.std.specs.Prelude.{Ok, Err}
 use mathlib.Core.Path.{◌≡◌, refl, sym, ap, ap₂, ◌∙◌, subst}
 use mathlib.Core.Bool.{Bool, true, false, cond, ◌&&◌}
 use mathlib.Core.List.{List, [], ◌∷◌, ◌++◌}
@@ -26,9 +27,9 @@ use Rattle.frame_reports.specs.Values.{turned_values}
 use Rattle.frame_reports.proofs.Endings.{ended-active}
 use Rattle.s3w2.specs.declared.Chip.{Chip}
 use Rattle.s3w2.specs.declared.Called.{Called}
-use Rattle.s3w2.specs.declared.Answer.{Answer}
-use Rattle.s3w2.specs.declared.Answer.TheVariants.{Done, Sample, Ended, StemBuffer}
-use Rattle.s3w2.specs.Answers.{unless, answered, called}
+use Rattle.s3w2.specs.declared.Returned.TheVariants.{Done, Sample, Ended}
+use Rattle.s3w2.specs.declared.Refusal.TheVariants.{StemBuffer}
+use Rattle.s3w2.specs.Answers.{Answer, Checked, unless, answered, called}
 use Rattle.s3w2.specs.Chips.{no_core, core_at, with_core_at, core_queues}
 use Rattle.s3w2.specs.Refusals.{sound_refusal}
 use Rattle.chip_sound.specs.Sound.{one_tick, one_tick_ends, generate_sample_called, silent_turns, core_frames, core_ended, framed, framed_ended, clock_called, clock_stems}
@@ -92,7 +93,7 @@ module _ (t : Texts) (chip : Chip) (ram : List ℕ) (queues : List ℤ) (held : 
     gives = record { next = d; answer = list.plays (list.sample tick.sample (list.ended_at slots t w d k ch)) [] tick.values }
 
     abbrev sampled : Bool → Called
-    sampled b = cond b (answered (with_core_at chip k (one_tick chip ram queues k ch).core) (Sample (one_tick chip ram queues k ch).sample (one_tick_ends chip ram queues k ch))) (answered chip (Sample (pos 0) false))
+    sampled b = cond b (answered (with_core_at chip k (one_tick chip ram queues k ch).core) (Ok (Sample (one_tick chip ram queues k ch).sample (one_tick_ends chip ram queues k ch)))) (answered chip (Ok (Sample (pos 0) false)))
 
     abbrev values : Bool → List ℤ
     values b = cond b (turned_values version ram (own k) ch 1 1 (core k)) []
@@ -209,14 +210,14 @@ module _ (t : Texts) (chip : Chip) (ram : List ℕ) (queues : List ℤ) (held : 
   pub tied-clock : (n : ℕ) (stems : List ℤ) → Agrees (sounded (clock_called chip ram queues n (length stems)) ram queues (clock_stems chip ram queues n stems ∷ []) (clock_call_values chip ram queues n (length stems))) (ran (list.clock n stems))
   unfolding clock_called clock_stems clock_call_values run
   tied-clock n lent =
-      subst (λ (r : Answer). Agrees (sounded (called r chip (answered (framed chip ram queues n) (Ended (framed_ended chip ram queues n)))) ram queues (unless r lent (paired n (turns n 0).stems (turns n 1).stems) ∷ []) (unless r [] (framed_values chip ram queues n))) (list.clocks slots t n lent w))
+      subst (λ (r : Checked). Agrees (sounded (called r chip (answered (framed chip ram queues n) (Ok (Ended (framed_ended chip ram queues n))))) ram queues (unless r lent (paired n (turns n 0).stems (turns n 1).stems) ∷ []) (unless r [] (framed_values chip ram queues n))) (list.clocks slots t n lent w))
       (sym (clock-only chip ram queues held n (length lent))) (go (eqb (length lent) (chip_stems * n)))
     where
       go : (b : Bool)
           → Agrees
-          (sounded (called (cond b Done StemBuffer) chip (answered (framed chip ram queues n) (Ended (framed_ended chip ram queues n)))) ram queues (unless (cond b Done StemBuffer) lent (paired n (turns n 0).stems (turns n 1).stems) ∷ []) (unless (cond b Done StemBuffer) [] (framed_values chip ram queues n)))
+          (sounded (called (cond b (Ok tt) (Err StemBuffer)) chip (answered (framed chip ram queues n) (Ok (Ended (framed_ended chip ram queues n))))) ram queues (unless (cond b (Ok tt) (Err StemBuffer)) lent (paired n (turns n 0).stems (turns n 1).stems) ∷ []) (unless (cond b (Ok tt) (Err StemBuffer)) [] (framed_values chip ram queues n)))
           (cond b (list.gives slots t (after n) (list.plays (list.ended (list.ended_in slots t w (after n))) (pairs.frames_stems slots n w ∷ []) (pairs.frames_values slots n w))) (list.gives slots t w (list.plays (list.refused (14 ∷ [])) (lent ∷ []) [])))
-      go true = frames-left n (Ended (framed_ended chip ram queues n)) _ _ _ (ap list.ended (frames-off n)) (ap₂ (λ (x y : List ℤ). paired n x y ∷ []) (stems n 0 (omega arith)) (stems n 1 (omega arith)))
+      go true = frames-left n (Ok (Ended (framed_ended chip ram queues n))) _ _ _ (ap list.ended (frames-off n)) (ap₂ (λ (x y : List ℤ). paired n x y ∷ []) (stems n 0 (omega arith)) (stems n 1 (omega arith)))
       go false = stays t chip ram queues held _ _ refl refl
 
   -- ---- frames mixed to two sides
@@ -239,7 +240,7 @@ module _ (t : Texts) (chip : Chip) (ram : List ℕ) (queues : List ℤ) (held : 
   module _ (left right : List ℤ) where
     pub tied-mixed-into : Agrees (sounded (mixed_called chip ram queues left right) ram queues (mixed_left saturating chip ram queues left right ∷ mixed_right saturating chip ram queues left right ∷ []) (mixed_call_values chip ram queues left right)) (ran (list.clock_mixed_into left right))
     unfolding run
-    tied-mixed-into = tied-mixed saturating left right Done list.done refl
+    tied-mixed-into = tied-mixed saturating left right (Ok Done) list.done refl
 
     pub tied-mixed-into-i32 : Agrees (sounded (mixed_i32_called chip ram queues left right) ram queues (mixed_left wrapping chip ram queues left right ∷ mixed_right wrapping chip ram queues left right ∷ []) (mixed_call_values chip ram queues left right)) (ran (list.clock_mixed_into_i32 left right))
     unfolding run
@@ -252,6 +253,6 @@ module _ (t : Texts) (chip : Chip) (ram : List ℕ) (queues : List ℤ) (held : 
     pub tied-clock-mixed : Agrees (sounded (clock_mixed_called chip ram queues left right) ram queues (clock_mixed_left chip ram queues left right ∷ clock_mixed_right chip ram queues left right ∷ []) (clock_mixed_call_values chip ram queues left right)) (ran (list.clock_mixed left right))
     unfolding clock_mixed_called clock_mixed_left clock_mixed_right run
     tied-clock-mixed =
-        subst (λ (r : Answer). Agrees (sounded (mixed_called chip ram queues (clear left) (clear right)) ram queues (unless r left (mixed_left saturating chip ram queues (clear left) (clear right)) ∷ unless r right (mixed_right saturating chip ram queues (clear left) (clear right)) ∷ []) (mixed_call_values chip ram queues (clear left) (clear right)))
+        subst (λ (r : Checked). Agrees (sounded (mixed_called chip ram queues (clear left) (clear right)) ram queues (unless r left (mixed_left saturating chip ram queues (clear left) (clear right)) ∷ unless r right (mixed_right saturating chip ram queues (clear left) (clear right)) ∷ []) (mixed_call_values chip ram queues (clear left) (clear right)))
         (ran (list.clock_mixed left right))) (sym (sound_none chip ram queues held))
-        (tied-mixed saturating (clear left) (clear right) Done list.done refl)
+        (tied-mixed saturating (clear left) (clear right) (Ok Done) list.done refl)

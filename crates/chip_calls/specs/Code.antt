@@ -10,7 +10,7 @@ use Rattle.chip_sound.specs.Mixing.{mixed_called, mixed_i32_called, mixed_left, 
 use Rattle.session.specs.Heads.{write_head_answer, write_head_text, read_head_called}
 use Rattle.session.specs.Voices.{write_voice_answer, write_voice_text, read_voice_called, read_voice_queues, read_stored_voice_called, read_stored_voice_queues}
 use Rattle.s3w2.specs.declared.Called.{Called}
-use Rattle.session.specs.declared.LineAnswer.{LineAnswer}
+use Rattle.session.specs.Answers.{LineAnswer}
 use Rattle.session.specs.declared.LineCalled.{LineCalled}
 use Rattle.call_lists.specs.Runs.{Outcome}
 use Rattle.call_lists.specs.Calls.{CallAnswer, Call, reset, set_version, reset_channel, write_register, read_register, peek_register, write_channel_control, read_channel_control, write_channel_pcm_reg, read_channel_pcm_reg, write_channel_wavetable, read_channel_wavetable, wavetable_length, interpolates, write_pcm_ram, read_pcm_ram, generate_sample, clock, clock_mixed, clock_mixed_into, clock_mixed_into_i32, write_head, read_head, write_voice, read_voice, read_stored_voice}
@@ -66,7 +66,7 @@ abbrev pub AsCode : Machine → Call → Called → List ℕ → List ℤ → Li
 AsCode m c called ram queues sides = sounded called ram queues sides (code m c).answer.values ≡ code m c
 
 -- the same of a line written to a lent text, and of a line read
-abbrev pub AsWritten : Machine → Call → LineAnswer → List ℕ → Type 0
+abbrev pub AsWritten : Machine → Call → LineAnswer ℕ → List ℕ → Type 0
 AsWritten m c answer text = wrote_by m.chip m.ram m.queues answer text ≡ code m c
 
 abbrev pub AsRead : Machine → Call → LineCalled → List ℕ → List ℤ → Type 0

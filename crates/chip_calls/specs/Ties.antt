@@ -1,5 +1,5 @@
 -- What ties a call of the chip to the call of the list.
-use Rattle.std.specs.Prelude.{◌≡◌, true, List, [], ℕ, ◌<◌, ℤ, length}
+use Rattle.std.specs.Prelude.{Ok, Err, ◌≡◌, true, List, [], ◌∷◌, ℕ, ◌<◌, ℤ, length}
 use Rattle.sizes.specs.Sizes.{num_channels}
 use Rattle.cores.specs.Sizes.{num_cores, chip_queues}
 use Rattle.tone.specs.Pcm.{is_ram_length}
@@ -9,13 +9,10 @@ use Rattle.voices.specs.Accepted.{SizedCore}
 use Rattle.voices.specs.declared.Core.{Core}
 use Rattle.s3w2.specs.declared.Chip.{Chip}
 use Rattle.s3w2.specs.declared.Called.{Called}
-use Rattle.s3w2.specs.declared.Answer.{Answer}
-use Rattle.s3w2.specs.declared.Answer.TheVariants.{Done, Byte, Sample, Count, Flag, Ended, RamLength, QueueBuffer, NotAccepted, StemBuffer}
-use Rattle.s3w2.specs.Answers.{number_of}
+use Rattle.s3w2.specs.declared.Returned.TheVariants.{Done, Byte, Sample, Count, Flag, Ended}
+use Rattle.s3w2.specs.Answers.{Answer, refusal_number}
 use Rattle.s3w2.specs.Chips.{core_at}
-use Rattle.session.specs.Answers.{numbers_of}
-use Rattle.session.specs.declared.LineAnswer.{LineAnswer}
-use Rattle.session.specs.declared.LineAnswer.TheVariants as lines
+use Rattle.session.specs.Answers.{LineAnswer, refusal_numbers}
 use Rattle.session.specs.declared.LineCalled.{LineCalled}
 use Rattle.slots.specs.Models.{SlotPair}
 use Rattle.plain_chip.specs.Good.{Bytes}
@@ -66,16 +63,13 @@ left chip ram queues answer = record { next = machine chip ram queues; answer = 
 
 -- the list's reply that an answer is
 abbrev pub reply_of : Answer → Reply
-reply_of Done = done
-reply_of (Byte x) = byte x
-reply_of (Sample x e) = sample x e
-reply_of (Count x) = count x
-reply_of (Flag x) = flag x
-reply_of (Ended s) = ended s
-reply_of RamLength = refused (number_of RamLength)
-reply_of QueueBuffer = refused (number_of QueueBuffer)
-reply_of NotAccepted = refused (number_of NotAccepted)
-reply_of StemBuffer = refused (number_of StemBuffer)
+reply_of (Ok Done) = done
+reply_of (Ok (Byte x)) = byte x
+reply_of (Ok (Sample x e)) = sample x e
+reply_of (Ok (Count x)) = count x
+reply_of (Ok (Flag x)) = flag x
+reply_of (Ok (Ended s)) = ended s
+reply_of (Err why) = refused (refusal_number why ∷ [])
 
 -- a call without a text: the lent stems or sides as it left them
 abbrev pub by : Called → List ℕ → List ℤ → List (List ℤ) → Outcome Machine list.CallAnswer
@@ -90,20 +84,18 @@ abbrev pub only_tells : Chip → List ℕ → List ℤ → Answer → Outcome Ma
 only_tells chip ram queues answer = left chip ram queues (list.replies (reply_of answer))
 
 -- ---- a session's lines
-abbrev pub line_reply : LineAnswer → Reply
-line_reply lines.Done = done
-line_reply (lines.Written n) = count n
-line_reply lines.RamLength = refused (numbers_of lines.RamLength)
-line_reply lines.QueueBuffer = refused (numbers_of lines.QueueBuffer)
-line_reply lines.NotAccepted = refused (numbers_of lines.NotAccepted)
-line_reply lines.TextBuffer = refused (numbers_of lines.TextBuffer)
-line_reply (lines.Malformed field) = refused (numbers_of (lines.Malformed field))
-line_reply lines.OtherLength = refused (numbers_of lines.OtherLength)
-line_reply lines.Queued = refused (numbers_of lines.Queued)
+abbrev pub line_reply : LineAnswer (Unit {0}) → Reply
+line_reply (Ok x) = done
+line_reply (Err why) = refused (refusal_numbers why)
+
+-- of one written, the length
+abbrev pub written_reply : LineAnswer ℕ → Reply
+written_reply (Ok n) = count n
+written_reply (Err why) = refused (refusal_numbers why)
 
 -- one written to a lent text
-abbrev pub wrote_by : Chip → List ℕ → List ℤ → LineAnswer → List ℕ → Outcome Machine list.CallAnswer
-wrote_by chip ram queues answer text = left chip ram queues (record { reply = line_reply answer; sides = []; text = text; values = [] })
+abbrev pub wrote_by : Chip → List ℕ → List ℤ → LineAnswer ℕ → List ℕ → Outcome Machine list.CallAnswer
+wrote_by chip ram queues answer text = left chip ram queues (record { reply = written_reply answer; sides = []; text = text; values = [] })
 
 -- one read
 abbrev pub read_by : LineCalled → List ℕ → List ℤ → Outcome Machine list.CallAnswer

@@ -1,6 +1,6 @@
 // Each call of the list as a function: its body is the chip's call, its promise is the line of `code` for it. So a public call
 // whose contract named another definition would fail here, and the theorem of `resume` speaks of functions.
-#![tactic(auto)]
+#![tactic(auto, unfolding(crate::specs::Code::code))]
 
 mod sound;
 mod state;

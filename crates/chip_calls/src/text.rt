@@ -4,10 +4,15 @@ ghost use Rattle.chip_calls.specs.Ties.{machine};
 ghost use Rattle.chip_calls.specs.Code.{AsWritten, AsRead};
 
 use s3w2::Chip;
-use session::{LineAnswer, LineCalled};
+use session::{LineCalled, LineRefusal};
 
 // As `session::write_head`.
-pub fn write_head(chip: Chip, ram: &[u8], queues: &[i16], out: &mut [u8]) -> LineAnswer
+pub fn write_head(
+    chip: Chip,
+    ram: &[u8],
+    queues: &[i16],
+    out: &mut [u8],
+) -> Result<usize, LineRefusal>
     ensures code { AsWritten (machine chip ram.now queues.now) (list.write_head out.old) result
         out.new }
 {
@@ -29,7 +34,7 @@ pub fn write_voice(
     queues: &[i16],
     voice: usize,
     out: &mut [u8],
-) -> LineAnswer
+) -> Result<usize, LineRefusal>
     ensures code { AsWritten (machine chip ram.now queues.now) (list.write_voice voice out.old) result
         out.new }
 {

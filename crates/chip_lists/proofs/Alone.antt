@@ -1,4 +1,5 @@
 -- A list of calls where core 1 is at rest: played, or turned away. Assumes nothing.
+use Rattle.std.specs.Prelude.{Ok, Err}
 use mathlib.Core.Path.{◌≡◌, refl, sym, ap, ap₂, ◌∙◌, subst}
 use mathlib.Core.Bool.{Bool, true, false, cond, ◌&&◌}
 use mathlib.Core.List.{List}
@@ -20,11 +21,12 @@ use Rattle.frames.specs.Turning.{may_run}
 use Rattle.frames.proofs.Asks.{asked, may-play}
 use Rattle.rest.specs.Rest.{rests}
 use Rattle.rest.proofs.Resting.{rest-accepted}
-use Rattle.s3w2.specs.declared.Answer.{Answer}
-use Rattle.s3w2.specs.declared.Answer.TheVariants.{Done, StemBuffer}
+use Rattle.s3w2.specs.declared.Returned.TheVariants.{Done}
+use Rattle.s3w2.specs.declared.Refusal.{Refusal}
+use Rattle.s3w2.specs.declared.Refusal.TheVariants.{StemBuffer}
 use Rattle.s3w2.specs.declared.Called.{Called}
 use Rattle.s3w2.specs.declared.Chip.{Chip}
-use Rattle.s3w2.specs.Answers.{is_done, answered}
+use Rattle.s3w2.specs.Answers.{answered}
 use Rattle.s3w2.specs.Chips.{core_at}
 use Rattle.chip_lists.specs.Plays.{Playing, playing, all_played}
 use Rattle.s3w2.specs.Refusals.{accepts_chip, refusal}
@@ -70,17 +72,10 @@ module _ (second : Core) (ram queues stems others : ℕ) where
 -- a state that is not accepted is told before a stem buffer that is too short
 without-stems : (a l state stems : Bool) → (state ≡ true → stems ≡ false) → refusal a l state false ≡ refusal a l state stems
 unfolding refusal
-without-stems true true true stems h = ap (λ (b : Bool). cond b Done StemBuffer) (sym (h refl))
+without-stems true true true stems h = ap (λ (b : Bool). cond b (Ok tt) (Err StemBuffer)) (sym (h refl))
 without-stems true true false stems h = refl
 without-stems true false state stems h = refl
 without-stems false l state stems h = refl
-
-not_done : (a l state : Bool) → is_done (refusal a l state false) ≡ false
-unfolding refusal
-not_done true true true = refl
-not_done true true false = refl
-not_done true false state = refl
-not_done false l state = refl
 
 -- a list that is not turned away, and is not core 0's own: core 1 is not at rest
 pub restless : {A : Type 0} (kinds addresses : List ℕ) (s : Playing) → Lends kinds addresses s → is_alone (core_at s.chip 1) (length s.ram) (length s.queues) (length s.stems) (length s.others) ≡ false → rests (core_at s.chip 1) ≡ true → A
@@ -106,16 +101,16 @@ module _ (kinds addresses : List ℕ) (chip : Chip) (ram : List ℕ) (queues : L
         let m = sym may-run ∙ core-accepts chip (length ram) ok 0 (omega arith) in
         sym (fails enough (eqb (length others) (length stems)) (may-play kinds addresses (length stems) l m ∙ barred))
 
-    pub first-away : (found : Answer) (ram1 : List ℕ) (queues1 : List ℤ) (values1 : List ℕ) (stems1 : List ℤ) (u : Called)
-        → found ≡ refusal (is_ram_length (length ram1)) (eqb (length queues1) chip_queues) (accepts_chip chip (length ram1)) false → u ≡ answered chip found
+    pub first-away : (why : Refusal) (ram1 : List ℕ) (queues1 : List ℤ) (values1 : List ℕ) (stems1 : List ℤ) (u : Called)
+        → Err why ≡ refusal (is_ram_length (length ram1)) (eqb (length queues1) chip_queues) (accepts_chip chip (length ram1)) false → u ≡ answered chip (Err why)
         → ram1 ≡ ram → queues1 ≡ queues → values1 ≡ values → stems1 ≡ stems
         → Says kinds addresses (playing chip ram queues values stems others) u ram1 queues1 values1 stems1 others
-    first-away found ram1 queues1 values1 stems1 u e eu er eq ev es =
+    first-away why ram1 queues1 values1 stems1 u e eu er eq ev es =
         let a = is_ram_length (length ram) in
         let k = eqb (length queues) chip_queues in
         let ok = accepts_chip chip (length ram) in
-        let here : found ≡ refusal a k ok false = e ∙ ap₂ (λ (x : List ℕ) (y : List ℤ). refusal (is_ram_length (length x)) (eqb (length y) chip_queues) (accepts_chip chip (length x)) false) er eq in
-        let said = turned-away kinds addresses s found enough refl (here ∙ without-stems a k ok (enough && eqb (length others) (length stems)) too_short) (ap is_done here ∙ not_done a k ok) u eu in
+        let here : Err why ≡ refusal a k ok false = e ∙ ap₂ (λ (x : List ℕ) (y : List ℤ). refusal (is_ram_length (length x)) (eqb (length y) chip_queues) (accepts_chip chip (length x)) false) er eq in
+        let said = turned-away kinds addresses s (Err why) enough refl (here ∙ without-stems a k ok (enough && eqb (length others) (length stems)) too_short) why refl u eu in
         subst (λ (x : List ℤ). Says kinds addresses s u ram1 queues1 values1 x others) (sym es)
         (subst (λ (x : List ℕ). Says kinds addresses s u ram1 queues1 x stems others) (sym ev)
         (subst (λ (x : List ℤ). Says kinds addresses s u ram1 x values stems others) (sym eq) (subst (λ (x : List ℕ). Says kinds addresses s u x queues values stems others) (sym er) said)))
@@ -141,10 +136,10 @@ module _ (kinds addresses : List ℕ) (chip : Chip) (ram : List ℕ) (queues : L
       alike = g.alike;
     }
 
-    pub first-played : (u : Called) (next : Chip) (ram1 : List ℕ) (queues1 : List ℤ) (values1 : List ℕ) (stems1 others1 : List ℤ) → u ≡ answered next Done
+    pub first-played : (u : Called) (next : Chip) (ram1 : List ℕ) (queues1 : List ℤ) (values1 : List ℕ) (stems1 others1 : List ℤ) → u ≡ answered next (Ok Done)
         → Leaves (all_played kinds addresses (playing chip ram queues values stems others)) next ram1 queues1 values1 stems1 others1 → length ram1 ≡ length ram
         → others1 ≡ replicate (length others) (pos 0) → Says kinds addresses (playing chip ram queues values stems others) u ram1 queues1 values1 stems1 others1
     first-played u next ram1 queues1 values1 stems1 others1 eu leaves long cleared =
         let e = nothing-amiss (is_ram_length (length ram)) (eqb (length queues) chip_queues) (accepts_chip chip (length ram)) (enough && eqb (length others) (length stems))
         g.allowed (eq-eqb (length queues) chip_queues g.lent) accepted (together enough (eqb (length others) (length stems)) filled (eq-eqb (length others) (length stems) g.alike)) in
-        played kinds addresses s Done enough refl e refl u next ram1 queues1 values1 stems1 others1 eu leaves long (λ _. cleared)
+        played kinds addresses s (Ok tt) enough refl e refl u next ram1 queues1 values1 stems1 others1 eu leaves long (λ _. cleared)

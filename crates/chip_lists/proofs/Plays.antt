@@ -1,4 +1,5 @@
 -- A call of a list on both cores is the single call, which is not turned away. Assumes nothing.
+use Rattle.std.specs.Prelude.{Ok, is_ok}
 use mathlib.Core.Path.{◌≡◌, refl, sym, ap, ◌∙◌}
 use mathlib.Core.Bool.{Bool, true, false, cond}
 use mathlib.Core.List.{List, [], ◌∷◌, ◌++◌, append-nil}
@@ -27,11 +28,10 @@ use Rattle.frames.specs.Listing.{read_register_kind, Listed, clock_turns, writte
 use Rattle.frames.specs.Turning.{Turns, turned, frames}
 use Rattle.frames.proofs.Counts.{zero-add}
 use Rattle.frames.proofs.Framing.{frames-turns}
-use Rattle.s3w2.specs.declared.Answer.{Answer}
-use Rattle.s3w2.specs.declared.Answer.TheVariants.{Done, Byte, Ended}
+use Rattle.s3w2.specs.declared.Returned.TheVariants.{Done, Byte, Ended}
 use Rattle.s3w2.specs.declared.Called.{Called}
 use Rattle.s3w2.specs.declared.Chip.{Chip}
-use Rattle.s3w2.specs.Answers.{is_done, unless, answered, called}
+use Rattle.s3w2.specs.Answers.{Answer, Checked, done_unless, unless, answered, called}
 use Rattle.s3w2.specs.Refusals.{refusal, accepts_chip, own_refusal, ram_refusal, queues_refusal, sound_refusal, clock_refusal}
 use Rattle.s3w2.specs.Chips.{core_queues, with_cores}
 use Rattle.s3w2.specs.Fresh.{set_version_called}
@@ -45,14 +45,14 @@ use Rattle.s3w2.proofs.Refused.{nothing-amiss}
 use Rattle.chip_sound.proofs.Seconds as seconds
 
 -- a call that is not turned away
-done-called : (r : Answer) (chip : Chip) (done : Called) → is_done r ≡ true → called r chip done ≡ done
-done-called r chip done h = ap (λ (b : Bool). cond b done (answered chip r)) h
+done-called : (r : Checked) (chip : Chip) (done : Called) → is_ok r ≡ true → called r chip done ≡ done
+done-called r chip done h = ap (λ (b : Bool). cond b done (answered chip (done_unless r))) h
 
-done-kept : {A : Type 0} (r : Answer) (kept done : A) → is_done r ≡ true → unless r kept done ≡ done
+done-kept : {A : Type 0} (r : Checked) (kept done : A) → is_ok r ≡ true → unless r kept done ≡ done
 done-kept r kept done h = ap (λ (b : Bool). cond b done kept) h
 
-amiss : (ram queues state stems : Bool) → ram ≡ true → queues ≡ true → state ≡ true → stems ≡ true → is_done (refusal ram queues state stems) ≡ true
-amiss ram queues state stems a b e g = ap is_done (sym (nothing-amiss ram queues state stems a b e g))
+amiss : (ram queues state stems : Bool) → ram ≡ true → queues ≡ true → state ≡ true → stems ≡ true → is_ok (refusal ram queues state stems) ≡ true
+amiss ram queues state stems a b e g = ap is_ok (sym (nothing-amiss ram queues state stems a b e g))
 
 -- stems behind those that were given
 stems-behind : (l g ys : List ℤ) (f : ℕ) → length g ≡ stems_per_frame * f → sets (sets l 0 g) (stems_per_frame * f) ys ≡ sets l 0 (g ++ ys)
@@ -93,16 +93,16 @@ module _ (stems₀ others₀ upper : List ℤ) where
     full : eqb (length q) chip_queues ≡ true
     full = eq-eqb (length q) chip_queues (length-append x.queues upper ∙ omega (arith, low, high))
 
-    own : is_done (own_refusal c) ≡ true
+    own : is_ok (own_refusal c) ≡ true
     own = amiss true true (accepts_chip c ram_most) true refl refl most refl
 
-    with-queues : is_done (queues_refusal c (length q)) ≡ true
+    with-queues : is_ok (queues_refusal c (length q)) ≡ true
     with-queues = amiss true (eqb (length q) chip_queues) (accepts_chip c ram_most) true refl full most refl
 
-    with-ram : is_done (ram_refusal c (length x.ram)) ≡ true
+    with-ram : is_ok (ram_refusal c (length x.ram)) ≡ true
     with-ram = amiss (is_ram_length (length x.ram)) true (accepts_chip c (length x.ram)) true allowed refl fine refl
 
-    with-both : is_done (sound_refusal c (length x.ram) (length q)) ≡ true
+    with-both : is_ok (sound_refusal c (length x.ram) (length q)) ≡ true
     with-both = amiss (is_ram_length (length x.ram)) (eqb (length q) chip_queues) (accepts_chip c (length x.ram)) true allowed full fine refl
 
     -- each core's half of the queue buffer
@@ -122,7 +122,7 @@ module _ (stems₀ others₀ upper : List ℤ) where
     register-played a v =
         let r = queues_refusal c (length q) in
         let w : List ℤ = write_register_queues x.version x.core x.queues a v in
-        let p = done-called r c (answered (chip_of (written x a v) b) Done) with-queues in
+        let p = done-called r c (answered (chip_of (written x a v) b) (Ok Done)) with-queues in
         let k =
         done-kept r q (sets q 0 (write_register_queues x.version x.core (core_queues 0 q) a v)) with-queues
         ∙ ap (λ (l : List ℤ). sets q 0 (write_register_queues x.version x.core l a v)) lower-half ∙ lower-set w (length-register-queues x.version x.core x.queues a v)
@@ -138,21 +138,21 @@ module _ (stems₀ others₀ upper : List ℤ) where
     byte-played a v =
         let r = ram_refusal c (length x.ram) in
         let t = ltb a (length x.ram) in
-        let p = ap (λ (u : Called). u.chip) (done-called r c (answered (cond t (with_cores c (after_ram_write x.core a) (after_ram_write b a)) c) Done) with-ram) ∙ byte-chip t a in
+        let p = ap (λ (u : Called). u.chip) (done-called r c (answered (cond t (with_cores c (after_ram_write x.core a) (after_ram_write b a)) c) (Ok Done)) with-ram) ∙ byte-chip t a in
         let k = done-kept r x.ram (set x.ram a v) with-ram in
         λ j. record { chip = p j; ram = k j; queues = q; values = x.values; stems = s.stems; others = s.others; frames = f }
 
     look-played : (i a : ℕ) (t : Bool) → shown_by s i (cond t (read_register_called c 0 a) (answered c (peek_register_answer c 0 a))) ≡ as_playing (looked x i a t) b o f
     unfolding read_register_called peek_register_answer
     look-played i a true =
-        ap (shown_by s i) (done-called (own_refusal c) c (answered (with_cores c (after_read_register x.core a) b) (Byte (peek_register x.version x.core a))) own)
+        ap (shown_by s i) (done-called (own_refusal c) c (answered (with_cores c (after_read_register x.core a) b) (Ok (Byte (peek_register x.version x.core a)))) own)
     look-played i a false =
-        ap (λ (u : Answer). shown_by s i (answered c u)) (done-kept (own_refusal c) (own_refusal c) (Byte (peek_register x.version x.core a)) own)
+        ap (λ (u : Answer). shown_by s i (answered c u)) (done-kept (own_refusal c) (done_unless (own_refusal c)) (Ok (Byte (peek_register x.version x.core a))) own)
 
     version-played : (v : SguVersion) → version_played s v ≡ as_playing (under_version x v) (set_core_version b v) o f
     unfolding set_version_called
     version-played v =
-        let p = done-called (own_refusal c) c (answered (chip_of (under_version x v) (set_core_version b v)) Done) own in
+        let p = done-called (own_refusal c) c (answered (chip_of (under_version x v) (set_core_version b v)) (Ok Done)) own in
         λ j. record { chip = (p j).chip; ram = x.ram; queues = q; values = x.values; stems = s.stems; others = s.others; frames = f }
 
     module _ (n : ℕ) where
@@ -167,7 +167,7 @@ module _ (stems₀ others₀ upper : List ℤ) where
       second-frames : core_frames c x.ram q n 1 ≡ S
       second-frames = ap (λ (l : List ℤ). cond (ltb 1 (core_count x.version)) (frames x.version x.ram l n b) (silent_turns n b)) upper-half
 
-      with-stems : is_done (clock_refusal c (length x.ram) (length q) n (chip_stems * n)) ≡ true
+      with-stems : is_ok (clock_refusal c (length x.ram) (length q) n (chip_stems * n)) ≡ true
       with-stems =
           amiss (is_ram_length (length x.ram)) (eqb (length q) chip_queues) (accepts_chip c (length x.ram)) (eqb (chip_stems * n) (chip_stems * n)) allowed full fine
           (eq-eqb (chip_stems * n) (chip_stems * n) refl)
@@ -181,7 +181,7 @@ module _ (stems₀ others₀ upper : List ℤ) where
       unfolding clock_called
       clock-played =
           let r = clock_refusal c (length x.ram) (length q) n (chip_stems * n) in
-          let p = done-called r c (answered (framed c x.ram q n) (Ended (framed_ended c x.ram q n))) with-stems in
+          let p = done-called r c (answered (framed c x.ram q n) (Ok (Ended (framed_ended c x.ram q n)))) with-stems in
           let chip-is = ap (λ (u : Called). u.chip) p ∙ (λ j. with_cores c (first-frames j).core (second-frames j).core) in
           let a = stems-played 0 stems₀ x.stems (turned x.version x.ram x.queues 0 4 (8 * n) x.core) long first-frames in
           let d = stems-played 1 others₀ o S other second-frames in

@@ -1,4 +1,5 @@
 -- A call of a list is a list of one call over its own parts of the list and of the stem buffers. Assumes nothing.
+use Rattle.std.specs.Prelude.{is_ok}
 use mathlib.Core.Path.{◌≡◌, refl, sym, ap, ◌∙◌}
 use mathlib.Core.Bool.{cond}
 use mathlib.Core.List.{List, []}
@@ -18,7 +19,7 @@ use Rattle.frames.specs.Listing.{read_register_kind, asked_of, clocked_as, clock
 use Rattle.frames.specs.Turning.{Turns, frames}
 use Rattle.frames.proofs.Framing.{frames-long}
 use Rattle.frames.proofs.Parts.{part_length, part-back}
-use Rattle.s3w2.specs.Answers.{byte_answered, unless, is_done, answered}
+use Rattle.s3w2.specs.Answers.{byte_answered, unless, answered}
 use Rattle.s3w2.specs.Refusals.{sound_refusal}
 use Rattle.s3w2.specs.Chips.{core_at, core_queues}
 use Rattle.s3w2.specs.Registers.{read_register_called, peek_register_answer}
@@ -90,7 +91,7 @@ module _ (s : Playing) (i : ℕ) (inside : i < length s.values) where
         let new = (core_frames s.chip s.ram s.queues n k).stems in
         let long = part_length l (stems_per_frame * f) (stems_per_frame * n) room in
         let whole : part own (stems_per_frame * 0) (stems_per_frame * n) ≡ own = take-take (stems_per_frame * n) (stems_per_frame * n) (drop (stems_per_frame * f) l) (omega arith) in
-        let filled : length (unless r own new) ≡ stems_per_frame * n = cond-by (λ (g : List ℤ). length g ≡ stems_per_frame * n) (is_done r) new own (λ e. frames-there k) (λ e. long) in
+        let filled : length (unless r own new) ≡ stems_per_frame * n = cond-by (λ (g : List ℤ). length g ≡ stems_per_frame * n) (is_ok r) new own (λ e. frames-there k) (λ e. long) in
         ap (λ (g : List ℤ). sets l (stems_per_frame * f) (sets own 0 (unless r g new))) whole
         ∙ ap (sets l (stems_per_frame * f)) (sets-all own (unless r own new) (long ∙ sym filled))
 

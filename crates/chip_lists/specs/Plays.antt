@@ -1,6 +1,6 @@
 -- A list of calls, one after the other, each as the call that makes it alone. Registers are core 0's; the stems of the two cores stand in
 -- two buffers, 16 a frame.
-use Rattle.std.specs.Prelude.{cond, ◌&&◌, List, ℕ, zero, suc, ◌+◌, ◌*◌, eqb, ℤ, length, get_or, set}
+use Rattle.std.specs.Prelude.{Ok, cond, ◌&&◌, List, ℕ, zero, suc, ◌+◌, ◌*◌, eqb, ℤ, length, get_or, set}
 use Rattle.std.proofs.lemmas.List.Edits.{sets}
 use Rattle.sizes.specs.Sizes.{stems_per_frame}
 use Rattle.cores.specs.Sizes.{chip_queues, chip_stems}
@@ -11,11 +11,10 @@ use Rattle.version.specs.declared.SguVersion.{SguVersion}
 use Rattle.frames.specs.declared.Asked.{Asked}
 use Rattle.frames.specs.declared.Asked.TheVariants.{WriteRegister, WritePcmRam, Look, Clock, SetVersion, Nothing}
 use Rattle.frames.specs.Listing.{read_register_kind, asked_of, frames_asked, call_count}
-use Rattle.s3w2.specs.declared.Answer.{Answer}
-use Rattle.s3w2.specs.declared.Answer.TheVariants.{Done}
+use Rattle.s3w2.specs.declared.Returned.TheVariants.{Done}
 use Rattle.s3w2.specs.declared.Called.{Called}
 use Rattle.s3w2.specs.declared.Chip.{Chip}
-use Rattle.s3w2.specs.Answers.{unless, answered, called, byte_answered}
+use Rattle.s3w2.specs.Answers.{Checked, unless, answered, called, byte_answered}
 use Rattle.s3w2.specs.Refusals.{accepts_chip, refusal, sound_refusal}
 use Rattle.s3w2.specs.Fresh.{set_version_called}
 use Rattle.s3w2.specs.Ram.{write_pcm_ram_called, write_pcm_ram_ram}
@@ -119,7 +118,7 @@ module _ (kinds addresses : List ℕ) where
 
   -- ---- `play`: as many calls as there are kinds, addresses and values
   module _ (s : Playing) where
-    abbrev pub play_refusal : Answer
+    abbrev pub play_refusal : Checked
     play_refusal =
         let frames = frames_asked kinds addresses 0 (call_count kinds addresses s.values) in
         refusal (is_ram_length (length s.ram)) (eqb (length s.queues) chip_queues) (accepts_chip s.chip (length s.ram))
@@ -129,7 +128,7 @@ module _ (kinds addresses : List ℕ) where
     all_played = calls_played (call_count kinds addresses s.values) s
 
     unfoldable pub play_called : Called
-    play_called = called play_refusal s.chip (answered all_played.chip Done)
+    play_called = called play_refusal s.chip (answered all_played.chip (Ok Done))
 
     -- what is lent, after the call
     unfoldable pub play_left : Playing

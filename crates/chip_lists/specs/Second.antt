@@ -1,5 +1,5 @@
 -- A list of calls on both cores: what is lent to it, what it leaves, and core 1 after one of its calls.
-use Rattle.std.specs.Prelude.{◌≡◌, Bool, true, false, cond, ◌&&◌, List, ℕ, ◌*◌, eqb, ltb, ℤ, pos, length, get_or, replicate}
+use Rattle.std.specs.Prelude.{is_ok, ◌≡◌, Bool, true, false, cond, ◌&&◌, List, ℕ, ◌*◌, eqb, ltb, ℤ, pos, length, get_or, replicate}
 use Rattle.std.proofs.lemmas.List.Edits.{sets}
 use Rattle.sizes.specs.Sizes.{stems_per_frame}
 use Rattle.cores.specs.Sizes.{chip_queues}
@@ -17,7 +17,6 @@ use Rattle.frames.specs.Turning.{Turns, no_turn, frames}
 use Rattle.rest.specs.Rest.{rests}
 use Rattle.s3w2.specs.declared.Called.{Called}
 use Rattle.s3w2.specs.declared.Chip.{Chip}
-use Rattle.s3w2.specs.Answers.{is_done}
 use Rattle.s3w2.specs.Chips.{core_at}
 use Rattle.s3w2.specs.Refusals.{accepts_chip}
 use Rattle.chip_sound.specs.Sound.{silent_turns}
@@ -51,7 +50,7 @@ pub record Says (kinds addresses : List ℕ) (s : Playing) (u : Called) (ram : L
   pub stems-is : stems ≡ (play_left kinds addresses s).stems
   pub others-is : others ≡ (play_left kinds addresses s).others
   pub accepted : accepts_chip s.chip (length s.ram) ≡ true → accepts_chip u.chip (length s.ram) ≡ true
-  pub silent : rests (core_at s.chip 1) ≡ true → is_done (play_refusal kinds addresses s) ≡ true → others ≡ replicate (length s.others) (pos 0)
+  pub silent : rests (core_at s.chip 1) ≡ true → is_ok (play_refusal kinds addresses s) ≡ true → others ≡ replicate (length s.others) (pos 0)
 
 -- whether core 0's own list is all, by core 1 and the lengths of what is lent
 unfoldable pub is_alone : Core → ℕ → ℕ → ℕ → ℕ → Bool

@@ -1,14 +1,13 @@
 // Lists of calls on a chip, one after the other, as the calls of `s3w2` would make them.
 #![tactic(auto)]
 
-ghost use Rattle.std.specs.Prelude.{◌≡◌, true, ◌*◌, pos, length, get_or, replicate, eqb};
+ghost use Rattle.std.specs.Prelude.{◌≡◌, Err, is_ok, true, false, ◌*◌, pos, length, get_or, replicate, eqb};
 ghost use Rattle.sizes.specs.Sizes.{queue_buffer, stems_per_frame};
 ghost use Rattle.cores.specs.Sizes.{chip_queues};
 ghost use Rattle.tone.specs.Pcm.{is_ram_length};
 ghost use Rattle.voices.specs.Accepted.{accepts_core};
 ghost use Rattle.frames.specs.Listing.{asked_of, lent_list, clocked_by};
 ghost use Rattle.rest.specs.Rest.{rests};
-ghost use Rattle.s3w2.specs.Answers.{is_done, answered};
 ghost use Rattle.s3w2.specs.Chips.{core_at};
 ghost use Rattle.s3w2.specs.Refusals.{accepts_chip, refusal};
 ghost use Rattle.chip_lists.specs.Plays.{playing, calls_played, all_played, play_refusal, play_called, play_left};
@@ -16,16 +15,10 @@ ghost use Rattle.chip_lists.specs.Second.{is_alone, is_shared, Lends, Leaves, Sa
 
 use cores::{CHIP_QUEUES, NUM_CORES};
 use frames::{CLOCK, SET_VERSION, WRITE_PCM_RAM, clocked_by};
-use s3w2::{Answer, Called, Chip, is_done};
+use s3w2::{Called, Chip, Refusal, Returned};
 use sizes::{QUEUE_BUFFER, STEMS};
 use version::SguVersion;
 use voices::Core;
-
-fn answers(chip: Chip, answer: Answer) -> Called
-    ensures { result ≡ answered chip answer }
-{
-    Called { chip, answer }
-}
 
 // Whether a call is core 1's too: RAM writes, clocks and versions are.
 fn is_shared(kind: u8) -> bool
@@ -82,17 +75,24 @@ fn second_call(
 }
 
 // The first refusal of a list: 14 where a stem buffer has not 16 stems for each frame that it clocks.
-fn refusal_of_list(chip: Chip, length: usize, queues: usize, enough: bool) -> Answer
+fn refusal_of_list(chip: Chip, length: usize, queues: usize, enough: bool) -> Result<(), Refusal>
     ensures { result ≡ refusal (is_ram_length length) (eqb queues chip_queues) (accepts_chip chip length) enough }
 {
-    let refusal = chip.refusal_of_sound(length, queues);
-    if !is_done(refusal) {
-        return refusal;
-    }
+    chip.refusal_of_sound(length, queues)?;
     if !enough {
-        return Answer::StemBuffer;
+        return Err(Refusal::StemBuffer);
     }
-    Answer::Done
+    Ok(())
+}
+
+// The first refusal of a list whose stem buffers are not as they should be.
+fn refusal_without_stems(chip: Chip, length: usize, queues: usize) -> Refusal
+    ensures { Err result ≡ refusal (is_ram_length length) (eqb queues chip_queues) (accepts_chip chip length) false }
+{
+    match chip.refusal_of_sound(length, queues) {
+        Ok(()) => Refusal::StemBuffer,
+        Err(refusal) => refusal,
+    }
 }
 
 // A list of one call: on core 0, and then on core 1.
@@ -162,8 +162,7 @@ fn play_each(
     let count = num::least(kinds.len(), num::least(addresses.len(), values.len()));
     let mut chip = chip;
     let mut at = 0;
-    let mut i: usize = 0;
-    while i < count {
+    for i in 0..count {
         let end = i + 1;
         let to = at + STEMS * clocked_by(kinds[i], addresses[i]);
         chip = play_one(
@@ -177,7 +176,6 @@ fn play_each(
             &mut others[at..to],
         );
         at = to;
-        i = end;
     }
     chip
 }
@@ -205,8 +203,8 @@ fn play_first(
         first, version, kinds, addresses, values, &mut *ram, own, stems,
     );
     if !played.made {
-        let refusal = refusal_of_list(chip, ram.len(), queues.len(), false);
-        return answers(chip, refusal);
+        let refusal = refusal_without_stems(chip, ram.len(), queues.len());
+        return chip.answers(Err(refusal));
     }
     stream::clear(others);
     let next = played.core;
@@ -218,13 +216,15 @@ fn play_first(
     };
     Called {
         chip: after,
-        answer: Answer::Done,
+        answer: Ok(Returned::Done),
     }
 }
 
 // A list of calls, one after the other: as many as there are kinds, addresses and values. A call's kind is one of
 // `frames`' numbers; its value is what it writes, or what it has read; a clock's address is its number of frames, a
 // version's its number. Registers are core 0's; `stems` are core 0's, `others` core 1's.
+// Kept as it is: three slices, for a run of RAM writes hands its addresses on as one slice, which would first be copied out of a
+// slice of structs, and there is no heap.
 pub fn play(
     chip: Chip,
     kinds: &[u8],
@@ -254,7 +254,7 @@ pub fn play(
         (playing chip ram.old queues.old values.old stems.old others.old)).others }
     ensures ram_value { accepts_chip chip (length ram.old) ≡ true → accepts_chip result.chip (length ram.old) ≡ true }
     ensures silent { rests (core_at chip 1) ≡ true
-        → is_done (play_refusal kinds.now addresses.now
+        → is_ok (play_refusal kinds.now addresses.now
         (playing chip ram.old queues.old values.old stems.old others.old)) ≡ true
         → others.new ≡ replicate (length others.old) (pos 0) }
 {
@@ -269,10 +269,9 @@ pub fn play(
     }
     let enough = frames::fills(kinds, addresses, &*values, stems.len());
     let alike = others.len() == stems.len();
-    let refusal = refusal_of_list(chip, ram.len(), queues.len(), enough & alike);
-    if !is_done(refusal) {
-        return answers(chip, refusal);
+    if let Err(refusal) = refusal_of_list(chip, ram.len(), queues.len(), enough & alike) {
+        return chip.answers(Err(refusal));
     }
     let after = play_each(chip, kinds, addresses, values, ram, queues, stems, others);
-    answers(after, Answer::Done)
+    after.answers(Ok(Returned::Done))
 }

@@ -12,7 +12,7 @@ use Rattle.cores.specs.Sizes.{chip_stems}
 use Rattle.cores.specs.Stems.{paired}
 use Rattle.version.specs.declared.SguVersion.{SguVersion}
 use Rattle.voices.specs.declared.Core.{Core}
-use Rattle.sides.specs.Sides.{added_to}
+use Rattle.sides.specs.Sides.{added}
 use Rattle.sides.proofs.Frames.{added-append, added-silent}
 use Rattle.frames.specs.Turning.{frame, frames}
 
@@ -71,17 +71,17 @@ paired-length (suc n) a b ea eb =
     length-append (take 16 a) (take 16 b ++ p) ∙ rw (length-append (take 16 b) p, length-take 16 a, length-take 16 b, paired-length n (drop 16 a) (drop 16 b) la lb) (omega (arith, ea, eb))
 
 -- ---- on a side: k frames and then c, where the second core has all of them, or none
-module _ (plus : ℤ → ℤ → ℤ) (hand first k c : ℕ) (one : hand ≤ 1) (side a more : List ℤ) (ea : length a ≡ stems_per_frame * k) where
+module _ {A : Type 0} (silent : A) (plus : A → ℤ → A) (hand first k c : ℕ) (one : hand ≤ 1) (side : List A) (a more : List ℤ) (ea : length a ≡ stems_per_frame * k) where
   abbrev Parts : List ℤ → List ℤ → Type 0
-  Parts b others = added_to plus (k + c) (a ++ more) (b ++ others) hand first side ≡ added_to plus c more others hand (first + k) (added_to plus k a b hand first side)
+  Parts b others = added silent plus (k + c) (a ++ more) (b ++ others) hand first side ≡ added silent plus c more others hand (first + k) (added silent plus k a b hand first side)
 
   alone : Parts [] []
   alone =
       let zeros = replicate (stems_per_frame * k) (pos 0) in
-      sym (ap (λ (l : List ℤ). added_to plus (k + c) (a ++ more) l hand first side) (append-nil zeros) ∙ added-silent plus (a ++ more) hand first side (k + c) (stems_per_frame * k))
-      ∙ added-append a more zeros [] hand k one ea (length-replicate (stems_per_frame * k) (pos 0)) plus first side c
-      ∙ ap (added_to plus c more [] hand (first + k)) (added-silent plus a hand first side k (stems_per_frame * k))
+      sym (ap (λ (l : List ℤ). added silent plus (k + c) (a ++ more) l hand first side) (append-nil zeros) ∙ added-silent silent plus (a ++ more) hand first side (k + c) (stems_per_frame * k))
+      ∙ added-append a more zeros [] hand k one ea (length-replicate (stems_per_frame * k) (pos 0)) silent plus first side c
+      ∙ ap (added silent plus c more [] hand (first + k)) (added-silent silent plus a hand first side k (stems_per_frame * k))
 
   pub added-parts : (sounds : Bool) (b others : List ℤ) → length b ≡ stems_per_frame * cond sounds k 0 → length others ≡ stems_per_frame * cond sounds c 0 → Parts b others
-  added-parts true b others eb eo = added-append a more b others hand k one ea eb plus first side c
+  added-parts true b others eb eo = added-append a more b others hand k one ea eb silent plus first side c
   added-parts false b others eb eo = rw (no_more b eb, no_more others eo) alone

@@ -1,4 +1,5 @@
 -- Sound leaves an accepted chip accepted. Assumes nothing beyond the ranges that the types give.
+use Rattle.std.specs.Prelude.{Ok}
 use mathlib.Core.Path.{◌≡◌, refl, subst}
 use mathlib.Core.Bool.{true, false, ◌&&◌}
 use mathlib.Core.List.{List}
@@ -21,11 +22,10 @@ use Rattle.frames.specs.Turning.{Turns, frames}
 use Rattle.frames.proofs.Framing.{frames-turns}
 use Rattle.frames.proofs.Wells.{Well, turned-well}
 use Rattle.sides.specs.Sides.{saturating}
-use Rattle.s3w2.specs.declared.Answer.{Answer}
-use Rattle.s3w2.specs.declared.Answer.TheVariants.{Done, Sample, Ended}
+use Rattle.s3w2.specs.declared.Returned.TheVariants.{Done, Sample, Ended}
 use Rattle.s3w2.specs.declared.Called.{Called}
 use Rattle.s3w2.specs.declared.Chip.{Chip}
-use Rattle.s3w2.specs.Answers.{answered}
+use Rattle.s3w2.specs.Answers.{Answer, answered}
 use Rattle.s3w2.specs.Refusals.{accepts_chip, sound_refusal, clock_refusal}
 use Rattle.s3w2.specs.Chips.{core_at, with_core_at, core_queues}
 use Rattle.chip_sound.specs.Sound.{one_tick, one_tick_ends, silent_turns, core_frames, framed, framed_ended, generate_sample_called, clock_called}
@@ -65,7 +65,7 @@ module _ (chip : Chip) (ram : List ℕ) (queues : List ℤ) (ok : accepts_chip c
       let t = one_tick chip ram queues k ch in
       let there = ltb k (core_count chip.version) in
       called-kept chip (length ram) ok (sound_refusal chip (length ram) (length queues)) _
-      (cond-by (λ (u : Called). accepts_chip u.chip (length ram) ≡ true) (there && ltb ch num_channels) (answered (with_core_at chip k t.core) (Sample t.sample (one_tick_ends chip ram queues k ch))) (answered chip (Sample (pos 0) false))
+      (cond-by (λ (u : Called). accepts_chip u.chip (length ram) ≡ true) (there && ltb ch num_channels) (answered (with_core_at chip k t.core) (Ok (Sample t.sample (one_tick_ends chip ram queues k ch)))) (answered chip (Ok (Sample (pos 0) false)))
       (λ e.
       let h = in-chip chip.version _ k refl (ltb-true k (core_count chip.version) (both there (ltb ch num_channels) e).0) in
       let w = turned-well chip.version ram (core_queues k queues) 1 (omega arith) (omega arith) bytes (parts chip.version ram (core_queues k queues) bytes (own-entries k)) ch (core_at chip k) (chip-well k h) 1 in
@@ -75,7 +75,7 @@ module _ (chip : Chip) (ram : List ℕ) (queues : List ℤ) (ok : accepts_chip c
   pub clock-kept : (n stems : ℕ) → accepts_chip (clock_called chip ram queues n stems).chip (length ram) ≡ true
   unfolding clock_called
   clock-kept n stems =
-      called-kept chip (length ram) ok (clock_refusal chip (length ram) (length queues) n stems) (answered (framed chip ram queues n) (Ended (framed_ended chip ram queues n))) (framed_kept n)
+      called-kept chip (length ram) ok (clock_refusal chip (length ram) (length queues) n stems) (answered (framed chip ram queues n) (Ok (Ended (framed_ended chip ram queues n)))) (framed_kept n)
 
   -- `clock_mixed_into`, `clock_mixed_into_i32`
   pub mixed-kept : (plus : ℤ → ℤ → ℤ) (left right : List ℤ) (answer : Answer) → accepts_chip (mixed_answered plus chip ram queues left right answer).chip (length ram) ≡ true
@@ -85,4 +85,4 @@ module _ (chip : Chip) (ram : List ℕ) (queues : List ℤ) (ok : accepts_chip c
 
   pub clock-mixed-kept : (left right : List ℤ) → accepts_chip (clock_mixed_called chip ram queues left right).chip (length ram) ≡ true
   unfolding clock_mixed_called
-  clock-mixed-kept left right = mixed-kept saturating (cleared_to (served left right) left) (cleared_to (served left right) right) Done
+  clock-mixed-kept left right = mixed-kept saturating (cleared_to (served left right) left) (cleared_to (served left right) right) (Ok Done)

@@ -9,40 +9,40 @@ use lib.ListN.{length, take, drop, replicate, length-take, length-replicate}
 use lib.Seq.{sets-eq, length-sets}
 use Rattle.sizes.specs.Sizes.{stems_per_frame}
 use Rattle.voices.specs.declared.Core.{Core}
-use Rattle.sides.specs.Sides.{frames_in, added_to, saturating}
-use Rattle.sides.proofs.Added.{added-length}
+use Rattle.sides.specs.Sides.{frames_in, added, saturating}
+use Rattle.sides.proofs.Added.{added-long}
 use Rattle.frames.specs.Turning.{Turns}
 use Rattle.frames.proofs.Framing.{frames-long}
 use Rattle.s3w2.specs.declared.Chip.{Chip}
 use Rattle.s3w2.specs.Chips.{core_at, with_cores, core_queues}
 use Rattle.chip_sound.specs.Sound.{core_frames, framed}
 use Rattle.chip_sound.specs.Both.{second_sounds}
-use Rattle.chip_sound.specs.Mixing.{cleared_to, mixed_called, mixed_side, mixed_left, mixed_right}
+use Rattle.chip_sound.specs.Mixing.{cleared_to, mixed_called, mixed_in, mixed_left, mixed_right}
 use Rattle.chip_sound.proofs.Chunks.{added-parts}
 use Rattle.chip_sound.proofs.Seconds.{first-frames, second-side}
 use Rattle.chip_sound.proofs.Loops.{Ran, one, two, Going, Went, went, mine-read, its-read, going-over}
 
 -- ---- frames added to two sides
-module _ (plus : ℤ → ℤ → ℤ) (ram : List ℕ) (queues : List ℤ) (sounds : Bool) (start : Chip) where
+module _ {A : Type 0} (silent : A) (plus : A → ℤ → A) (ram : List ℕ) (queues : List ℤ) (sounds : Bool) (start : Chip) where
   -- a side after k frames
-  abbrev on_side : ℕ → ℕ → List ℤ → List ℤ
-  on_side hand k side = added_to plus k (one ram queues sounds start k).stems (two ram queues sounds start k).stems hand 0 side
+  abbrev on_side : ℕ → ℕ → List A → List A
+  on_side hand k side = added silent plus k (one ram queues sounds start k).stems (two ram queues sounds start k).stems hand 0 side
 
-  side-turn : (n k count : ℕ) (c d : Core) (ys zs : List ℤ) → Went ram queues sounds start n k count c d ys zs → (hand : ℕ) (side₀ side heard : List ℤ) → hand ≤ 1 → side ≡ on_side hand k side₀
-      → heard ≡ added_to plus count ys zs hand k side → heard ≡ on_side hand (k + count) side₀
+  side-turn : (n k count : ℕ) (c d : Core) (ys zs : List ℤ) → Went ram queues sounds start n k count c d ys zs → (hand : ℕ) (side₀ side heard : List A) → hand ≤ 1 → side ≡ on_side hand k side₀
+      → heard ≡ added silent plus count ys zs hand k side → heard ≡ on_side hand (k + count) side₀
   side-turn n k count c d ys zs w hand side₀ side heard h es eh =
       let z : k ≡ 0 + k = omega arith in
       eh
-      ∙ ap₂ (λ (f : ℕ) (l : List ℤ). added_to plus count ys zs hand f l) z es
-      ∙ sym (added-parts plus hand 0 k count h side₀ (one ram queues sounds start k).stems ys (frames-long start.version ram (core_queues 0 queues) (core_at start 0) k) sounds (two ram queues sounds start k).stems zs
+      ∙ ap₂ (λ (f : ℕ) (l : List A). added silent plus count ys zs hand f l) z es
+      ∙ sym (added-parts silent plus hand 0 k count h side₀ (one ram queues sounds start k).stems ys (frames-long start.version ram (core_queues 0 queues) (core_at start 0) k) sounds (two ram queues sounds start k).stems zs
       (frames-long start.version ram (core_queues 1 queues) (core_at start 1) (cond sounds k 0)) w.long_two)
-      ∙ ap₂ (λ (a b : List ℤ). added_to plus (k + count) a b hand 0 side₀) w.stems_one w.stems_two
+      ∙ ap₂ (λ (a b : List ℤ). added silent plus (k + count) a b hand 0 side₀) w.stems_one w.stems_two
 
-  side-over : sounds ≡ second_sounds start → (n : ℕ) (left right : List ℤ) (hand : ℕ) (side : List ℤ) → n ≡ min (length left) (length right) → on_side hand n side ≡ mixed_side plus start ram queues left right hand side
-  side-over e n left right hand side q =
-      second-side start ram queues n sounds e plus (one ram queues sounds start n).stems hand 0 side
-      ∙ sym (ap (λ (t : Turns). added_to plus n t.stems (second n) hand 0 side) (first-frames start ram queues n))
-      ∙ ap (λ (m : ℕ). added_to plus m (first m) (second m) hand 0 side) q
+  side-over : sounds ≡ second_sounds start → (n m : ℕ) (hand : ℕ) (side : List A) → n ≡ m → on_side hand n side ≡ mixed_in silent plus start ram queues m hand side
+  side-over e n m hand side q =
+      second-side start ram queues n sounds e silent plus (one ram queues sounds start n).stems hand 0 side
+      ∙ sym (ap (λ (t : Turns). added silent plus n t.stems (second n) hand 0 side) (first-frames start ram queues n))
+      ∙ ap (λ (m : ℕ). added silent plus m (first m) (second m) hand 0 side) q
     where
       first : ℕ → List ℤ
       first m = (core_frames start ram queues m 0).stems
@@ -50,23 +50,23 @@ module _ (plus : ℤ → ℤ → ℤ) (ram : List ℕ) (queues : List ℤ) (soun
       second : ℕ → List ℤ
       second m = (core_frames start ram queues m 1).stems
 
-  module _ (left₀ right₀ : List ℤ) (n : ℕ) where
-    pub record Mixing (k : ℕ) (a b : Core) (left right : List ℤ) : Type 0 where
+  module _ (left₀ right₀ : List A) (n : ℕ) where
+    pub record Mixing (k : ℕ) (a b : Core) (left right : List A) : Type 0 where
       pub going : Going ram queues sounds start n k a b
       pub on_left : left ≡ on_side 0 k left₀
       pub on_right : right ≡ on_side 1 k right₀
       pub long : n ≡ min (length left₀) (length right₀)
 
     pub mixing-begin : (a b : Core) → Going ram queues sounds start n 0 a b → n ≡ min (length left₀) (length right₀) → Mixing 0 a b left₀ right₀
-    unfolding added_to
+    unfolding added
     mixing-begin a b g e = record { going = g; on_left = refl; on_right = refl; long = e }
 
-    module _ (k : ℕ) (a b : Core) (left right : List ℤ) (m : Mixing k a b left right) where
+    module _ (k : ℕ) (a b : Core) (left right : List A) (m : Mixing k a b left right) where
       pub left-length : length left ≡ length left₀
-      left-length = ap length m.on_left ∙ added-length plus _ _ 0 0 left₀ k
+      left-length = ap length m.on_left ∙ added-long silent plus _ _ 0 0 left₀ k
 
       pub right-length : length right ≡ length right₀
-      right-length = ap length m.on_right ∙ added-length plus _ _ 1 0 right₀ k
+      right-length = ap length m.on_right ∙ added-long silent plus _ _ 1 0 right₀ k
 
       -- one more turn, from what `run_core` and the adding say
       module _ (more : k < n) (count : ℕ) (ec : count ≡ min (n - k) 256) (stems others : List ℤ) (es : length stems ≡ 4096) (eo : length others ≡ 4096) (room : ℕ) (er : room ≡ cond sounds (stems_per_frame * count) 0)
@@ -82,17 +82,17 @@ module _ (plus : ℤ → ℤ → ℤ) (ram : List ℕ) (queues : List ℤ) (soun
         abbrev seconds : List ℤ
         seconds = take room (zs ++ drop room others)
 
-        heard-is : (hand : ℕ) (side : List ℤ) → added_to plus (frames_in (length firsts) (length left) (length right) k) firsts seconds hand k side ≡ added_to plus count ys zs hand k side
+        heard-is : (hand : ℕ) (side : List A) → added silent plus (frames_in (length firsts) (length left) (length right) k) firsts seconds hand k side ≡ added silent plus count ys zs hand k side
         unfolding frames_in
         heard-is hand side =
             let places : frames_in (length ys) (length left) (length right) k ≡ count = omega (arith, ec, w.long_one, more, left-length, right-length, m.long) in
-            ap₂ (λ (x y : List ℤ). added_to plus (frames_in (length x) (length left) (length right) k) x y hand k side)
+            ap₂ (λ (x y : List ℤ). added silent plus (frames_in (length x) (length left) (length right) k) x y hand k side)
             (mine-read ram queues sounds start n k a b m.going more count ec stems others es eo room er q p eq ep c d ys zs ry rz)
             (its-read ram queues sounds start n k a b m.going more count ec stems others es eo room er q p eq ep c d ys zs ry rz)
-            ∙ ap (λ (f : ℕ). added_to plus f ys zs hand k side) places
+            ∙ ap (λ (f : ℕ). added silent plus f ys zs hand k side) places
 
-        pub mixing-turn : (l r : List ℤ) → l ≡ added_to plus (frames_in (length firsts) (length left) (length right) k) firsts seconds 0 k left
-            → r ≡ added_to plus (frames_in (length firsts) (length left) (length right) k) firsts seconds 1 k right → Mixing (k + count) c d l r
+        pub mixing-turn : (l r : List A) → l ≡ added silent plus (frames_in (length firsts) (length left) (length right) k) firsts seconds 0 k left
+            → r ≡ added silent plus (frames_in (length firsts) (length left) (length right) k) firsts seconds 1 k right → Mixing (k + count) c d l r
         mixing-turn l r el er = record {
           going = w.going;
           on_left = side-turn n k count c d ys zs w 0 left₀ left l (omega arith) m.on_left (el ∙ heard-is 0 left);
@@ -108,11 +108,11 @@ module _ (plus : ℤ → ℤ → ℤ) (ram : List ℕ) (queues : List ℤ) (soun
         pub chip-over : (next : Chip) → next ≡ with_cores start a b → next ≡ framed start ram queues (min (length left₀) (length right₀))
         chip-over next en = going-over ram queues sounds start n k a b next e m.going h en ∙ ap (λ (j : ℕ). framed start ram queues j) m.long
 
-        pub left-over : left ≡ mixed_side plus start ram queues left₀ right₀ 0 left₀
-        left-over = m.on_left ∙ ap (λ (j : ℕ). on_side 0 j left₀) last ∙ side-over e n left₀ right₀ 0 left₀ m.long
+        pub left-over : left ≡ mixed_in silent plus start ram queues (min (length left₀) (length right₀)) 0 left₀
+        left-over = m.on_left ∙ ap (λ (j : ℕ). on_side 0 j left₀) last ∙ side-over e n (min (length left₀) (length right₀)) 0 left₀ m.long
 
-        pub right-over : right ≡ mixed_side plus start ram queues left₀ right₀ 1 right₀
-        right-over = m.on_right ∙ ap (λ (j : ℕ). on_side 1 j right₀) last ∙ side-over e n left₀ right₀ 1 right₀ m.long
+        pub right-over : right ≡ mixed_in silent plus start ram queues (min (length left₀) (length right₀)) 1 right₀
+        right-over = m.on_right ∙ ap (λ (j : ℕ). on_side 1 j right₀) last ∙ side-over e n (min (length left₀) (length right₀)) 1 right₀ m.long
 
 -- the first entries of a side, zeros
 pub cleared-is : (n k : ℕ) (side zeros : List ℤ) → k ≡ min n (length side) → zeros ≡ replicate (length (take k side)) (pos 0) → zeros ++ drop k side ≡ cleared_to n side

@@ -11,7 +11,7 @@ use Rattle.num.proofs.Choice.{never}
 use Rattle.version.specs.declared.SguVersion.{SguVersion}
 use Rattle.version.specs.declared.SguVersion.TheVariants.{V1, V2, V2_1, V3, V3_1}
 use Rattle.version.specs.Versions.{core_count}
-use Rattle.sides.specs.Sides.{added_to}
+use Rattle.sides.specs.Sides.{added}
 use Rattle.sides.proofs.Frames.{added-silent}
 use Rattle.frames.specs.Turning.{Turns, frames}
 use Rattle.frame_reports.specs.Ending.{frames_ended}
@@ -100,14 +100,14 @@ module _ (chip : Chip) (ram : List ℕ) (queues : List ℤ) (n : ℕ) where
         go true q = sym (ap (λ (t : Turns). t.core) (second-frames (sym q)))
         go false q = sym (ap (λ (t : Turns). t.core) (silent-second (sym q)))
 
-    pub second-side : (plus : ℤ → ℤ → ℤ) (stems : List ℤ) (hand first : ℕ) (side : List ℤ)
-        → added_to plus n stems clocked.stems hand first side ≡ added_to plus n stems (core_frames chip ram queues n 1).stems hand first side
+    pub second-side : {A : Type 0} (silent : A) (plus : A → ℤ → A) (stems : List ℤ) (hand first : ℕ) (side : List A)
+        → added silent plus n stems clocked.stems hand first side ≡ added silent plus n stems (core_frames chip ram queues n 1).stems hand first side
     unfolding frames
-    second-side plus stems hand first side = go sounds e
+    second-side {A} silent plus stems hand first side = go sounds e
       where
-        on : List ℤ → List ℤ
-        on l = added_to plus n stems l hand first side
+        on : List ℤ → List A
+        on l = added silent plus n stems l hand first side
 
         go : (b : Bool) → b ≡ second_sounds chip → on (frames chip.version ram (core_queues 1 queues) (cond b n 0) (core_at chip 1)).stems ≡ on (core_frames chip ram queues n 1).stems
         go true q = sym (ap (λ (t : Turns). on t.stems) (second-frames (sym q)))
-        go false q = sym (ap (λ (t : Turns). on t.stems) (silent-second (sym q)) ∙ added-silent plus stems hand first side n (16 * n))
+        go false q = sym (ap (λ (t : Turns). on t.stems) (silent-second (sym q)) ∙ added-silent silent plus stems hand first side n (16 * n))

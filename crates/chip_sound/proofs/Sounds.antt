@@ -1,4 +1,5 @@
 -- A tick of one voice, from what the call of the tick says. Assumes nothing.
+use Rattle.std.specs.Prelude.{Ok}
 use mathlib.Core.Path.{◌≡◌, sym, ap, ap₂, ◌∙◌}
 use mathlib.Core.Bool.{Bool, false, cond, ◌&&◌}
 use mathlib.Core.List.{List}
@@ -21,7 +22,7 @@ use Rattle.frame_reports.specs.Ending.{turned_off}
 use Rattle.frames.specs.declared.Turned.{Turned}
 use Rattle.s3w2.specs.declared.Chip.{Chip}
 use Rattle.s3w2.specs.declared.Called.{Called}
-use Rattle.s3w2.specs.declared.Answer.TheVariants.{Sample}
+use Rattle.s3w2.specs.declared.Returned.TheVariants.{Sample}
 use Rattle.s3w2.specs.Answers.{answered}
 use Rattle.s3w2.specs.Chips.{core_at, with_core_at, core_queues}
 use Rattle.chip_sound.specs.Sound.{one_tick, one_tick_ends}
@@ -45,10 +46,10 @@ lent_back queues k ys e =
 
 module _ (chip : Chip) (ram : List ℕ) (queues : List ℤ) (k ch : ℕ) where
   abbrev given : Called
-  given = answered (with_core_at chip k (one_tick chip ram queues k ch).core) (Sample (one_tick chip ram queues k ch).sample (one_tick_ends chip ram queues k ch))
+  given = answered (with_core_at chip k (one_tick chip ram queues k ch).core) (Ok (Sample (one_tick chip ram queues k ch).sample (one_tick_ends chip ram queues k ch)))
 
   abbrev nothing : Called
-  nothing = answered chip (Sample (pos 0) false)
+  nothing = answered chip (Ok (Sample (pos 0) false))
 
   abbrev chosen : Bool → Bool → Called
   chosen there voice = cond (there && voice) given nothing
@@ -69,9 +70,9 @@ module _ (chip : Chip) (ram : List ℕ) (queues : List ℤ) (k ch : ℕ) where
 
     pub sample-some : (core : Core) (sample : ℤ) (ended : Bool) → ch ≤ 7 → length queues ≡ chip_queues
         → record { core = core; sample = sample } ≡ after_turns (single_tick chip.version ram (lent queues k) ch (core_at chip k)) → ended ≡ turned_off (channel_at (core_at chip k) ch) (channel_at core ch)
-        → answered (with_core_at chip k core) (Sample sample ended) ≡ chosen (ltb k (core_count chip.version)) (ltb ch num_channels)
+        → answered (with_core_at chip k core) (Ok (Sample sample ended)) ≡ chosen (ltb k (core_count chip.version)) (ltb ch num_channels)
     sample-some core sample ended h q e f =
         let r : ◌≡◌ {A = Turned} (record { core = core; sample = sample }) (after_turns (one_tick chip ram queues k ch)) = e ∙ ap after_turns (single-open q) in
         let t : ended ≡ one_tick_ends chip ram queues k ch = f ∙ tick-ended chip.version ram (core_queues k queues) (core_at chip k) core ch h (ap (λ (t : Turned). t.core) r) in
-        ap₂ (λ (t : Turned) (b : Bool). answered (with_core_at chip k t.core) (Sample t.sample b)) r t
+        ap₂ (λ (t : Turned) (b : Bool). answered (with_core_at chip k t.core) (Ok (Sample t.sample b))) r t
         ∙ sym (ap₂ chosen (lt-ltb k (core_count chip.version) there) (lt-ltb ch num_channels (omega (arith, h))))

@@ -1,5 +1,5 @@
 -- One voice's tick, and frames of stems. The queue buffer is only read. A core that the version lacks is silent and is not ticked.
-use Rattle.std.specs.Prelude.{Bool, false, cond, ◌&&◌, List, ℕ, ◌+◌, ◌*◌, ltb, ℤ, pos, length, replicate}
+use Rattle.std.specs.Prelude.{Ok, Bool, false, cond, ◌&&◌, List, ℕ, ◌+◌, ◌*◌, ltb, ℤ, pos, length, replicate}
 use Rattle.sizes.specs.Sizes.{num_channels, stems_per_frame}
 use Rattle.cores.specs.Stems.{paired}
 use Rattle.version.specs.Versions.{core_count}
@@ -10,7 +10,7 @@ use Rattle.frames.specs.Turning.{Turns, turned, frames}
 use Rattle.frame_reports.specs.Ending.{tick_ends, frames_ended}
 use Rattle.s3w2.specs.declared.Chip.{Chip}
 use Rattle.s3w2.specs.declared.Called.{Called}
-use Rattle.s3w2.specs.declared.Answer.TheVariants.{Sample, Ended}
+use Rattle.s3w2.specs.declared.Returned.TheVariants.{Sample, Ended}
 use Rattle.s3w2.specs.Answers.{unless, answered, called}
 use Rattle.s3w2.specs.Refusals.{sound_refusal, clock_refusal}
 use Rattle.s3w2.specs.Chips.{core_at, with_core_at, with_cores, core_queues}
@@ -27,8 +27,8 @@ unfoldable pub generate_sample_called : Chip → List ℕ → List ℤ → ℕ �
 generate_sample_called chip ram queues k ch =
     called (sound_refusal chip (length ram) (length queues)) chip
     (cond (ltb k (core_count chip.version) && ltb ch num_channels)
-    (answered (with_core_at chip k (one_tick chip ram queues k ch).core) (Sample (one_tick chip ram queues k ch).sample (one_tick_ends chip ram queues k ch)))
-    (answered chip (Sample (pos 0) false)))
+    (answered (with_core_at chip k (one_tick chip ram queues k ch).core) (Ok (Sample (one_tick chip ram queues k ch).sample (one_tick_ends chip ram queues k ch))))
+    (answered chip (Ok (Sample (pos 0) false))))
 
 -- ---- n frames of core k
 abbrev pub silent_turns : ℕ → Core → Turns
@@ -52,7 +52,7 @@ module _ (chip : Chip) (ram : List ℕ) (queues : List ℤ) (n : ℕ) where
 -- `stems` is the stem buffer, or its length
 unfoldable pub clock_called : Chip → List ℕ → List ℤ → ℕ → ℕ → Called
 clock_called chip ram queues n stems =
-    called (clock_refusal chip (length ram) (length queues) n stems) chip (answered (framed chip ram queues n) (Ended (framed_ended chip ram queues n)))
+    called (clock_refusal chip (length ram) (length queues) n stems) chip (answered (framed chip ram queues n) (Ok (Ended (framed_ended chip ram queues n))))
 
 unfoldable pub clock_stems : Chip → List ℕ → List ℤ → ℕ → List ℤ → List ℤ
 clock_stems chip ram queues n stems =

@@ -53,12 +53,9 @@ pub(crate) fn pair(first: &[i16], second: &[i16], stems: &mut [i16])
     requires { (length first.now % stems_per_frame ≡ 0) × (length second.now ≡ length first.now) × (length stems.old ≡ 2 * length first.now) }
     ensures { stems.new ≡ paired (length first.now / stems_per_frame) first.now second.now }
 {
-    let n = first.len();
-    let mut i = 0;
-    while i < n {
+    for i in 0..first.len() {
         let at = i + i / STEMS * STEMS;
         stems[at] = first[i];
         stems[at + STEMS] = second[i];
-        i += 1;
     }
 }

@@ -1,11 +1,11 @@
 // Which voices of both cores are active, and which were and are so no more.
 ghost use Rattle.std.specs.Prelude.{◌≡◌, ◌+◌, ◌*◌};
 ghost use Rattle.voices.specs.Actives.{Actives, ended_since};
-ghost use Rattle.s3w2.specs.declared.Answer.TheVariants.{Ended};
+ghost use Rattle.s3w2.specs.declared.Returned.TheVariants.{Ended};
 ghost use Rattle.s3w2.specs.Chips.{core_at};
 
 use crate::Flags;
-use s3w2::{Answer, Chip};
+use s3w2::{Chip, Returned};
 
 pub(crate) fn flags(chip: Chip) -> Flags
     ensures first { Actives (core_at chip 0).channels result.first }
@@ -21,7 +21,7 @@ pub(crate) fn flags(chip: Chip) -> Flags
 }
 
 // Core 0's are the low eight bits.
-pub(crate) fn ended_since(chip: Chip, was: Flags) -> Answer
+pub(crate) fn ended_since(chip: Chip, was: Flags) -> Returned
     ensures { result ≡ Ended (ended_since was.first (core_at chip 0).channels + 256 * ended_since was.second (core_at chip 1).channels) }
 {
     let a = chip.core_at(0);
@@ -32,5 +32,5 @@ pub(crate) fn ended_since(chip: Chip, was: Flags) -> Answer
     let second = was.second;
     let set = voices::ended(first, low) as u16;
     let others = voices::ended(second, high) as u16;
-    Answer::Ended(set + 256 * others)
+    Returned::Ended(set + 256 * others)
 }

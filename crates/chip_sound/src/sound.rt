@@ -9,7 +9,7 @@ use crate::both::{pair, run_core, second_sounds};
 use crate::ended::{ended_since, flags};
 use crate::mixing::{CHUNK, room};
 use cores::CHIP_STEMS;
-use s3w2::{Answer, Called, Chip, is_done};
+use s3w2::{Answer, Called, Chip, Returned};
 use sizes::{LAST_CHANNEL, QUEUE_BUFFER, STEMS};
 use voices::Core;
 
@@ -28,22 +28,21 @@ pub fn generate_sample(chip: Chip, ram: &[u8], queues: &mut [i16], core: usize, 
     ensures called { result ≡ generate_sample_called chip ram.now queues.old core ch }
     ensures queues { queues.new ≡ queues.old }
 {
-    let refusal = chip.refusal_of_sound(ram.len(), queues.len());
-    if !is_done(refusal) {
-        return chip.answers(refusal);
+    if let Err(refusal) = chip.refusal_of_sound(ram.len(), queues.len()) {
+        return chip.answers(Err(refusal));
     }
     let version = chip.version;
     if version.core_count() <= core {
-        return chip.answers(Answer::Sample {
+        return chip.answers(Ok(Returned::Sample {
             value: 0,
             ended: false,
-        });
+        }));
     }
     if LAST_CHANNEL < ch {
-        return chip.answers(Answer::Sample {
+        return chip.answers(Ok(Returned::Sample {
             value: 0,
             ended: false,
-        });
+        }));
     }
     let voices = chip.cores[core];
     let from = core * QUEUE_BUFFER;
@@ -59,23 +58,23 @@ pub fn generate_sample(chip: Chip, ram: &[u8], queues: &mut [i16], core: usize, 
         chip,
         core,
         next,
-        Answer::Sample {
+        Ok(Returned::Sample {
             value: turned.sample,
             ended,
-        },
+        }),
     )
 }
 
 // Stems: 32 a frame, core 0's and then core 1's, channel 0 left, channel 0 right, channel 1 left and so on. The answer is the
 // voices that the frames turned off.
+// Kept as it is: the last part of the frames is shorter, so a range by steps would count each part's length all the same.
 pub fn clock(chip: Chip, ram: &[u8], queues: &mut [i16], frames: usize, stems: &mut [i16]) -> Called
     ensures called { result ≡ clock_called chip ram.now queues.old frames (length stems.old) }
     ensures queues { queues.new ≡ queues.old }
     ensures stems { stems.new ≡ clock_stems chip ram.now queues.old frames stems.old }
 {
-    let refusal = chip.refusal_of_clock(ram.len(), queues.len(), frames, stems.len());
-    if !is_done(refusal) {
-        return chip.answers(refusal);
+    if let Err(refusal) = chip.refusal_of_clock(ram.len(), queues.len(), frames, stems.len()) {
+        return chip.answers(Err(refusal));
     }
     let was = flags(chip);
     let version = chip.version;
@@ -97,5 +96,5 @@ pub fn clock(chip: Chip, ram: &[u8], queues: &mut [i16], frames: usize, stems: &
         done += count;
     }
     let after = chip.with_cores(one, two);
-    after.answers(ended_since(after, was))
+    after.answers(Ok(ended_since(after, was)))
 }

@@ -1,7 +1,6 @@
 -- Reading what was written gives the number that was written, and nothing else is read. Assumes nothing.
 use mathlib.Core.Path.{◌≡◌, refl, sym, ap, ◌∙◌}
 use mathlib.Core.Bool.{Bool, true, false}
-use mathlib.Core.Option.{Option, none, some}
 use mathlib.Core.List.{List, [], ◌∷◌, ◌++◌, append_assoc, append-nil}
 use Prim.Native.Nat.{ℕ, zero, suc, ◌+◌, ◌-◌, ◌*◌, ◌/◌, ◌%◌, ◌^◌, ◌≤◌, ◌<◌}
 use native.Mathlib.Nat.{add-zero}
@@ -17,12 +16,11 @@ use mir.Val.{SFits}
 use borrow.Author.Tests.{eqb-true, eqb-false, lt-ltb}
 use Rattle.num.proofs.Integers.{fit-up, fit-down}
 use Rattle.decimal.specs.Written.{decimal, render}
-use Rattle.decimal.specs.Read.{digit, digit_at, digits_of, spelled, natural, bounded, natural_at, number_at, negative, positive}
-use Rattle.decimal.specs.declared.TakenNatural.{TakenNatural}
-use Rattle.decimal.specs.declared.TakenNatural.TheVariants.{Natural, NoNatural}
-use Rattle.decimal.specs.declared.TakenNumber.TheVariants.{Number, NoNumber}
+use Rattle.decimal.specs.Read.{digit, digit_at, digits_of, spelled, natural, bounded, natural_at, number_at, negative, positive, Numeral}
 use Rattle.decimal.proofs.Writing.{decimal-small, decimal-more}
 use Rattle.decimal.proofs.Reading.{is_digit, natural-lead, digit_low, digit-high, run-stop, sign-in, number-minus, number-plus, negative_fits, positive-fits}
+use Rattle.std.specs.Prelude.{Option, Some, None}
+use Rattle.std.proofs.lemmas.Option.{none-some, some_pair_parts}
 
 spelled-snoc : (v : ℕ) (xs : List ℕ) (c : ℕ) → spelled v (xs ++ (c ∷ [])) ≡ spelled v xs * 10 + (c - 48)
 spelled-snoc v [] c = refl
@@ -78,21 +76,21 @@ digits-of (suc turns) n h = elim (dec_le 10 n) [ yes l ↦ rw (decimal-more n l)
 numeral : (n : ℕ) → Digits n (decimal n)
 numeral n = digits-of (suc n) n (omega arith)
 
-natural-cons : (n c : ℕ) (cs : List ℕ) → spelled 0 (c ∷ cs) ≡ n → (c ≡ 48 → (n ≡ 0) × (cs ≡ [])) → natural (c ∷ cs) ≡ some n
-natural-cons n c [] g z = ap some (omega arith)
+natural-cons : (n c : ℕ) (cs : List ℕ) → spelled 0 (c ∷ cs) ≡ n → (c ≡ 48 → (n ≡ 0) × (cs ≡ [])) → natural (c ∷ cs) ≡ Some n
+natural-cons n c [] g z = ap Some (omega arith)
 natural-cons n c (d ∷ cs) g z = go (eqb c 48) refl
   where
-    go : (b : Bool) → eqb c 48 ≡ b → natural (c ∷ d ∷ cs) ≡ some n
+    go : (b : Bool) → eqb c 48 ≡ b → natural (c ∷ d ∷ cs) ≡ Some n
     go true e = let q : d ∷ cs ≡ [] = (z (eqb-true c 48 e)).1 in (cc)
-    go false e = rw e (ap some g)
+    go false e = rw e (ap Some g)
 
-natural-of : (n : ℕ) → natural (decimal n) ≡ some n
+natural-of : (n : ℕ) → natural (decimal n) ≡ Some n
 natural-of n =
     let d = numeral n in
     rw d.split (natural-cons n d.lead d.tail (rw d.split at d.value) d.zeros)
 
 -- ---- reading what was written: `rest` is what stands behind the numeral, and does not begin with a digit
-pub natural-back : (n : ℕ) (text rest : List ℕ) (at : ℕ) → n < 2 ^ 64 → drop at text ≡ decimal n ++ rest → digits_of rest ≡ [] → natural_at text at ≡ Natural n (at + length (decimal n))
+pub natural-back : (n : ℕ) (text rest : List ℕ) (at : ℕ) → n < 2 ^ 64 → drop at text ≡ decimal n ++ rest → digits_of rest ≡ [] → natural_at text at ≡ Some (n, at + length (decimal n))
 unfolding natural_at
 natural-back n text rest at h e f = rw (e, run-append (decimal n) rest (numeral n).run, f, append-nil (decimal n), natural-of n, lt-ltb n (2 ^ 64) h)
 
@@ -102,7 +100,7 @@ first text xs rest at e = ap (λ (l : List ℕ). get_or l 0 0) (sym e) ∙ get_o
 behind : (text : List ℕ) (c : ℕ) (cs : List ℕ) (at : ℕ) → drop at text ≡ c ∷ cs → drop (at + 1) text ≡ cs
 behind text c cs at e = sym (drop-drop 1 at text) ∙ ap (drop 1) e
 
-pub number-back : (z : ℤ) (text rest : List ℕ) (at : ℕ) → SFits w64 z → drop at text ≡ render z ++ rest → digits_of rest ≡ [] → number_at text at ≡ Number z (at + length (render z))
+pub number-back : (z : ℤ) (text rest : List ℕ) (at : ℕ) → SFits w64 z → drop at text ≡ render z ++ rest → digits_of rest ≡ [] → number_at text at ≡ Some (z, at + length (render z))
 unfolding render
 number-back (pos n) text rest at h e f =
     let d = numeral n in
@@ -111,16 +109,16 @@ number-back (pos n) text rest at h e f =
 number-back (negsuc n) text rest at h e f =
     number-minus text at (sym (first text (45 ∷ decimal (suc n)) rest at e))
     ∙ rw (natural-back (suc n) text rest (at + 1) (omega (arith, fit-down h)) (behind text 45 (decimal (suc n) ++ rest) at e) f)
-    (negative_fits (suc n) (at + 1 + length (decimal (suc n))) (λ q. omega arith) (fit-down h) ∙ ap (λ (m : ℕ). Number (negsuc m) (at + 1 + length (decimal (suc n)))) (omega arith) ∙ ap (Number (negsuc n)) (omega arith))
+    (negative_fits (suc n) (at + 1 + length (decimal (suc n))) (λ q. omega arith) (fit-down h) ∙ ap (λ (m : ℕ). Some (negsuc m, at + 1 + length (decimal (suc n)))) (omega arith) ∙ ap (λ (k : ℕ). Some (negsuc n, k)) (omega arith))
 
 -- the same, of a buffer into which the numeral was put
 written : (l xs : List ℕ) (at : ℕ) → at + length xs ≤ length l → drop at (sets l at xs) ≡ xs ++ drop (at + length xs) l
 written l xs at h = rw (sets-eq xs l at h) (ap (drop at) (append_assoc (take at l) xs (drop (at + length xs) l)) ∙ drop_at (take at l) (xs ++ drop (at + length xs) l) at (length-take-le at l (omega arith)))
 
-pub natural-written : (n : ℕ) (l : List ℕ) (at : ℕ) → n < 2 ^ 64 → at + length (decimal n) ≤ length l → digit_at l (at + length (decimal n)) ≡ false → natural_at (sets l at (decimal n)) at ≡ Natural n (at + length (decimal n))
+pub natural-written : (n : ℕ) (l : List ℕ) (at : ℕ) → n < 2 ^ 64 → at + length (decimal n) ≤ length l → digit_at l (at + length (decimal n)) ≡ false → natural_at (sets l at (decimal n)) at ≡ Some (n, at + length (decimal n))
 natural-written n l at h k e = natural-back n _ _ at h (written l (decimal n) at k) (run-stop l (at + length (decimal n)) e)
 
-pub number-written : (z : ℤ) (l : List ℕ) (at : ℕ) → SFits w64 z → at + length (render z) ≤ length l → digit_at l (at + length (render z)) ≡ false → number_at (sets l at (render z)) at ≡ Number z (at + length (render z))
+pub number-written : (z : ℤ) (l : List ℕ) (at : ℕ) → SFits w64 z → at + length (render z) ≤ length l → digit_at l (at + length (render z)) ≡ false → number_at (sets l at (render z)) at ≡ Some (z, at + length (render z))
 number-written z l at h k e = number-back z _ _ at h (written l (render z) at k) (run-stop l (at + length (render z)) e)
 
 -- ---- nothing else is read: what stands where a number is read is its numeral
@@ -158,12 +156,12 @@ run-split (c ∷ cs) = go (digit c) refl (run-split cs)
     go true d ih = rw d (ap (λ (l : List ℕ). c ∷ l) ih)
     go false d ih = rw d
 
-zero-alone : (cs : List ℕ) (n : ℕ) → natural (48 ∷ cs) ≡ some n → (cs ≡ []) × (n ≡ 0)
+zero-alone : (cs : List ℕ) (n : ℕ) → natural (48 ∷ cs) ≡ Some n → (cs ≡ []) × (n ≡ 0)
 zero-alone [] n g = (refl, cc)
 zero-alone (d ∷ cs) n g = (cc, cc)
 
 -- digits that are a numeral are that of their number
-natural-only : (n : ℕ) (ds : List ℕ) → digits_of ds ≡ ds → natural ds ≡ some n → ds ≡ decimal n
+natural-only : (n : ℕ) (ds : List ℕ) → digits_of ds ≡ ds → natural ds ≡ Some n → ds ≡ decimal n
 natural-only n [] e g = cc
 natural-only n (c ∷ cs) e g = go (digit c) refl
   where
@@ -188,19 +186,19 @@ natural-only n (c ∷ cs) e g = go (digit c) refl
             rw (q, a.0, a.1) (sym (decimal-small 0 (omega arith)))
         tell false z =
             let q : c ≡ 48 → ⊥ = eqb-false c 48 z in
-            let v : some (spelled 0 (c ∷ cs)) ≡ some n = sym (natural-lead c cs q) ∙ g in
+            let v : Some (spelled 0 (c ∷ cs)) ≡ Some n = sym (natural-lead c cs q) ∙ g in
             lead d q (cc)
 
 -- THE CONVERSE: where a number is read, its numeral stands, and the answer's place is behind it
-bounded-is : (o : Option ℕ) (n next k : ℕ) → bounded o k ≡ Natural n next → (o ≡ some n) × (k ≡ next)
-bounded-is none n next k e = (cc, cc)
-bounded-is (some m) n next k e = go (ltb m (2 ^ 64)) refl
+bounded-is : (o : Option ℕ) (n next k : ℕ) → bounded o k ≡ Some (n, next) → (o ≡ Some n) × (k ≡ next)
+bounded-is None n next k e = absurd (none-some (n, next) e)
+bounded-is (Some m) n next k e = go (ltb m (2 ^ 64)) refl
   where
-    go : (b : Bool) → ltb m (2 ^ 64) ≡ b → (some m ≡ some n) × (k ≡ next)
-    go true t = let z : Natural m k ≡ Natural n next = rw t at e in (cc, cc)
-    go false t = let z : NoNatural ≡ Natural n next = rw t at e in (cc, cc)
+    go : (b : Bool) → ltb m (2 ^ 64) ≡ b → (Some m ≡ Some n) × (k ≡ next)
+    go true t = let z = some_pair_parts m n k next (rw t at e) in (ap (λ (x : ℕ). Some x) z.0, z.1)
+    go false t = absurd (none-some (n, next) (rw t at e))
 
-pub natural-only-written : (n : ℕ) (text : List ℕ) (at next : ℕ) → natural_at text at ≡ Natural n next → drop at text ≡ decimal n ++ drop next text
+pub natural-only-written : (n : ℕ) (text : List ℕ) (at next : ℕ) → natural_at text at ≡ Some (n, next) → drop at text ≡ decimal n ++ drop next text
 unfolding natural_at
 natural-only-written n text at next e =
     let run = digits_of (drop at text) in
@@ -210,34 +208,34 @@ natural-only-written n text at next e =
     ∙ ap (λ (l : List ℕ). decimal n ++ l) (drop-drop (length (digits_of (drop at text))) at text ∙ ap (λ (k : ℕ). drop k text) b.1)
 
 -- the same of an integer: which numeral without its sign gives it
-record Below (o : TakenNatural) (z : ℤ) (next : ℕ) : Type 0 where
+record Below (o : Numeral ℕ) (z : ℤ) (next : ℕ) : Type 0 where
   size : ℕ
-  from : o ≡ Natural (suc size) next
+  from : o ≡ Some (suc size, next)
   is : z ≡ negsuc size
 
-record Above (o : TakenNatural) (z : ℤ) (next : ℕ) : Type 0 where
+record Above (o : Numeral ℕ) (z : ℤ) (next : ℕ) : Type 0 where
   size : ℕ
-  from : o ≡ Natural size next
+  from : o ≡ Some (size, next)
   is : z ≡ pos size
 
-negative-is : (o : TakenNatural) (z : ℤ) (next : ℕ) → negative o ≡ Number z next → Below o z next
-negative-is NoNatural z next e = record { size = 0; from = cc; is = cc }
-negative-is (Natural zero k) z next e = record { size = 0; from = cc; is = cc }
-negative-is (Natural (suc n) k) z next e = go (ltb n (2 ^ 63)) refl
+negative-is : (o : Numeral ℕ) (z : ℤ) (next : ℕ) → negative o ≡ Some (z, next) → Below o z next
+negative-is None z next e = absurd (none-some (z, next) e)
+negative-is (Some (zero, k)) z next e = absurd (none-some (z, next) e)
+negative-is (Some (suc n, k)) z next e = go (ltb n (2 ^ 63)) refl
   where
-    go : (b : Bool) → ltb n (2 ^ 63) ≡ b → Below (Natural (suc n) k) z next
-    go true t = let q : Number (negsuc n) k ≡ Number z next = rw t at e in record { size = n; from = cc; is = cc }
-    go false t = let q : NoNumber ≡ Number z next = rw t at e in record { size = n; from = cc; is = cc }
+    go : (b : Bool) → ltb n (2 ^ 63) ≡ b → Below (Some (suc n, k)) z next
+    go true t = let q = some_pair_parts (negsuc n) z k next (rw t at e) in record { size = n; from = ap (λ (i : ℕ). Some (suc n, i)) q.1; is = sym q.0 }
+    go false t = absurd (none-some (z, next) (rw t at e))
 
-positive-is : (o : TakenNatural) (z : ℤ) (next : ℕ) → positive o ≡ Number z next → Above o z next
-positive-is NoNatural z next e = record { size = 0; from = cc; is = cc }
-positive-is (Natural n k) z next e = go (ltb n (2 ^ 63)) refl
+positive-is : (o : Numeral ℕ) (z : ℤ) (next : ℕ) → positive o ≡ Some (z, next) → Above o z next
+positive-is None z next e = absurd (none-some (z, next) e)
+positive-is (Some (n, k)) z next e = go (ltb n (2 ^ 63)) refl
   where
-    go : (b : Bool) → ltb n (2 ^ 63) ≡ b → Above (Natural n k) z next
-    go true t = let q : Number (pos n) k ≡ Number z next = rw t at e in record { size = n; from = cc; is = cc }
-    go false t = let q : NoNumber ≡ Number z next = rw t at e in record { size = n; from = cc; is = cc }
+    go : (b : Bool) → ltb n (2 ^ 63) ≡ b → Above (Some (n, k)) z next
+    go true t = let q = some_pair_parts (pos n) z k next (rw t at e) in record { size = n; from = ap (λ (i : ℕ). Some (n, i)) q.1; is = sym q.0 }
+    go false t = absurd (none-some (z, next) (rw t at e))
 
-pub number-only-written : (z : ℤ) (text : List ℕ) (at next : ℕ) → number_at text at ≡ Number z next → drop at text ≡ render z ++ drop next text
+pub number-only-written : (z : ℤ) (text : List ℕ) (at next : ℕ) → number_at text at ≡ Some (z, next) → drop at text ≡ render z ++ drop next text
 unfolding render
 number-only-written z text at next e = go (eqb (get_or text at 0) 45) refl
   where

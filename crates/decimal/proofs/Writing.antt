@@ -2,17 +2,18 @@
 use mathlib.Core.Path.{◌≡◌, refl, sym, ap, ◌∙◌}
 use mathlib.Core.Bool.{Bool, true, false}
 use mathlib.Core.List.{List, [], ◌∷◌, ◌++◌, append_assoc, append-nil}
-use Prim.Native.Nat.{ℕ, zero, suc, ◌+◌, ◌/◌, ◌%◌, ◌≤◌, ◌<◌, ◌^◌, min}
+use Prim.Native.Nat.{ℕ, zero, suc, ◌+◌, ◌/◌, ◌-◌, ◌%◌, ◌≤◌, ◌<◌, ◌^◌, min}
 use native.Mathlib.Nat.{add-zero, pow-suc}
 use native.Mathlib.Numerals.{add-one}
 use native.Mathlib.Omega.{arith}
 use native.Mathlib.Decide.{dec_le}
 use lib.Dec.{ltb}
 use lib.IntN.{ℤ, pos, negsuc, nat_abs}
-use lib.ListN.{length, take, get_or, length-append}
-use lib.Seq.{sets, set_out, length-sets, take-suc}
+use lib.ListN.{length, take, drop, get_or, length-append, take-append-drop, drop_of_length-le}
+use lib.Seq.{sets, sets-eq, set_out, length-sets, length-take-le, drop-drop, take-suc}
 use mir.Syntax.{w16}
 use mir.Val.{SFits}
+use borrow.Rule.Slice.PartMut.{put_mid, post_of}
 use borrow.Author.Tests.{ltb-false, lt-ltb, le-ltb}
 use Rattle.num.specs.Integers.{down}
 use Rattle.num.proofs.Integers.{fit-up, fit-down}
@@ -84,6 +85,27 @@ put-long l m at e text p = ap length p.1 ∙ length-sets l at text
 -- no text, at a place that is at most the buffer's end
 pub put-none : (l : List ℕ) (at e : ℕ) → e ≡ min at (length l) → Put l l at [] e
 put-none l at e h = (h ∙ ap (λ (k : ℕ). min k (length l)) (sym (add-zero at)), refl)
+
+-- a text copied as far as there is room
+sets-cut : (text l : List ℕ) (start count : ℕ) → count ≡ min (length text) (length l - start) → sets l start text ≡ sets l start (take count text)
+sets-cut text l start count h =
+    ap (sets l start) (sym (take-append-drop count text)) ∙ sets-append (take count text) (drop count text) l start
+    ∙ elim (dec_le (length text) count) [ yes e ↦ rw (drop_of_length-le text e) refl | no e ↦ sets-out (drop count text) (sets l start (take count text)) _ (omega (arith, length-sets l start (take count text), length-take-le count text (omega arith))) ]
+
+pub put-copied : (l m text part : List ℕ) (at start count k : ℕ) → start ≡ min at (length l) → count ≡ min (length text) (length l - start) → k ≡ count → part ≡ take count text → m ≡ put_mid start k l part → Put l m at text (start + count)
+put-copied l m text part at start count k s h ke pe e = (
+  omega arith,
+  e ∙ sym (
+      sym (sets-clipped text l at) ∙ ap (λ (i : ℕ). sets l i text) (sym s) ∙ sets-cut text l start count h ∙ ap (sets l start) (sym pe)
+      ∙ sets-eq part l start (omega (arith, long)) ∙ append_assoc (take start l) part (drop (start + length part) l)
+      ∙ ap (λ (r : List ℕ). take start l ++ (part ++ r)) behind),
+)
+  where
+    long : length part ≡ count
+    long = ap length pe ∙ length-take-le count text (omega arith)
+
+    behind : drop (start + length part) l ≡ post_of start k l
+    behind = sym (drop-drop k start l ∙ ap (λ (i : ℕ). drop i l) (omega (arith, long)))
 
 -- one byte more of a text
 pub put_next : (l m k text : List ℕ) (at e r i : ℕ) → i < length text → Put l m at (take i text) e → Put m k e (get_or text i 0 ∷ []) r → Put l k at (take (i + 1) text) r

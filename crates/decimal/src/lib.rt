@@ -1,23 +1,12 @@
 // Decimal text: plain decimal without leading zeros, a minus sign only before a negative number.
 #![tactic(auto)]
 
-ghost use Rattle.std.specs.Prelude.{◌≡◌, [], ◌∷◌, nat_abs, length};
+ghost use Rattle.std.specs.Prelude.{◌≡◌, [], ◌∷◌, length};
 ghost use Rattle.decimal.specs.Written.{Put, decimal, render};
 ghost use Rattle.decimal.specs.Read.{digit_at, spelled_at, natural_at, number_at, negative, positive};
 
-// What reading a numeral without a sign finds: its value and the place behind it.
-#[derive(Clone, Copy)]
-pub enum TakenNatural {
-    Natural { value: u64, next: usize },
-    NoNatural,
-}
-
 // What reading a numeral finds: its value and the place behind it.
-#[derive(Clone, Copy)]
-pub enum TakenNumber {
-    Number { value: i64, next: usize },
-    NoNumber,
-}
+pub type Numeral<T> = Option<(T, usize)>;
 
 // Puts a byte into out at `at`, if there is room, and answers the place behind it, at most out's end.
 pub fn put_byte(out: &mut [u8], at: usize, byte: u8) -> usize
@@ -35,13 +24,10 @@ pub fn put_byte(out: &mut [u8], at: usize, byte: u8) -> usize
 pub fn put_text(out: &mut [u8], at: usize, text: &[u8]) -> usize
     ensures { Put out.old out.new at text.now result }
 {
-    let mut end = num::least(at, out.len());
-    let mut i = 0;
-    while i < text.len() {
-        end = put_byte(out, end, text[i]);
-        i += 1;
-    }
-    end
+    let start = num::least(at, out.len());
+    let count = num::least(text.len(), out.len() - start);
+    out[start..start + count].copy_from_slice(&text[..count]);
+    start + count
 }
 
 // Puts n's numeral into out from `at` on, as far as there is room, and answers the place behind it, at most out's end.
@@ -62,22 +48,12 @@ pub fn natural_width(n: u64) -> usize
 {
     let mut rest = n;
     let mut width = 1;
+    // Kept as it is: no index is counted here, and an iterator of the quotients would be longer.
     while 10 <= rest {
         rest /= 10;
         width += 1;
     }
     width
-}
-
-// The size of a number, without its sign.
-fn magnitude(value: i64) -> u64
-    ensures { result ≡ nat_abs value }
-{
-    if value < 0 {
-        ((-1 - value) as u64) + 1
-    } else {
-        value as u64
-    }
 }
 
 // Puts a number's numeral into out from `at` on, as far as there is room, and answers the place behind it, at most out's end.
@@ -86,16 +62,16 @@ pub fn put_number(out: &mut [u8], at: usize, value: i64) -> usize
 {
     if value < 0 {
         let end = put_byte(out, at, 45);
-        return put_natural(out, end, magnitude(value));
+        return put_natural(out, end, value.unsigned_abs());
     }
-    put_natural(out, at, magnitude(value))
+    put_natural(out, at, value.unsigned_abs())
 }
 
 // How many bytes a number's numeral has.
 pub fn number_width(value: i64) -> usize
     ensures { result ≡ length (render value) }
 {
-    let width = natural_width(magnitude(value));
+    let width = natural_width(value.unsigned_abs());
     if value < 0 { width + 1 } else { width }
 }
 
@@ -103,94 +79,64 @@ pub fn number_width(value: i64) -> usize
 fn digit_at(text: &[u8], i: usize) -> bool
     ensures { result ≡ digit_at text.now i }
 {
-    if i < text.len() {
-        let c = text[i];
-        if c < 48 {
-            return false;
-        }
-        c <= 57
-    } else {
-        false
-    }
+    num::byte_at(text, i).is_ascii_digit()
 }
 
 // The number that the digits from `at` on spell.
-fn take_digits(text: &[u8], at: usize) -> TakenNatural
+fn take_digits(text: &[u8], at: usize) -> Numeral<u64>
     ensures { result ≡ spelled_at 0 text.now at }
 {
     let mut value: u64 = 0;
     let mut i = at;
+    // Kept as it is: a `for` up to the text's end would have two exits with the same answer, and this has one.
     while digit_at(text, i) {
         let d = (text[i] - 48) as u64;
-        if (0xffff_ffff_ffff_ffff - d) / 10 < value {
-            return TakenNatural::NoNatural;
-        }
-        value = value * 10 + d;
+        value = value.checked_mul(10)?.checked_add(d)?;
         i += 1;
     }
-    TakenNatural::Natural { value, next: i }
+    Some((value, i))
 }
 
 // The numeral without a sign at `at`: all digits that stand there, none of them a 0 before others, and below 2^64.
-pub fn take_natural(text: &[u8], at: usize) -> TakenNatural
+pub fn take_natural(text: &[u8], at: usize) -> Numeral<u64>
     ensures { result ≡ natural_at text.now at }
 {
     if !digit_at(text, at) {
-        return TakenNatural::NoNatural;
+        return None;
     }
     if text[at] == 48 {
         if digit_at(text, at + 1) {
-            return TakenNatural::NoNatural;
+            return None;
         }
-        return TakenNatural::Natural {
-            value: 0,
-            next: at + 1,
-        };
+        return Some((0, at + 1));
     }
     take_digits(text, at)
 }
 
 // A numeral with a minus sign before it: a number from -2^63 to -1.
-fn negated(size: TakenNatural) -> TakenNumber
+fn negated(size: Numeral<u64>) -> Numeral<i64>
     ensures { result ≡ negative size }
 {
-    match size {
-        TakenNatural::Natural { value, next } => {
-            if value == 0 {
-                return TakenNumber::NoNumber;
-            }
-            if 0x8000_0000_0000_0000 < value {
-                return TakenNumber::NoNumber;
-            }
-            TakenNumber::Number {
-                value: -1 - ((value - 1) as i64),
-                next,
-            }
-        }
-        TakenNatural::NoNatural => TakenNumber::NoNumber,
+    let (value, next) = size?;
+    if value == 0 {
+        return None;
     }
+    if 0x8000_0000_0000_0000 < value {
+        return None;
+    }
+    Some((-1 - ((value - 1) as i64), next))
 }
 
 // A numeral with no sign before it: a number below 2^63.
-fn unsigned(size: TakenNatural) -> TakenNumber
+fn unsigned(size: Numeral<u64>) -> Numeral<i64>
     ensures { result ≡ positive size }
 {
-    match size {
-        TakenNatural::Natural { value, next } => {
-            if 0x8000_0000_0000_0000 <= value {
-                return TakenNumber::NoNumber;
-            }
-            TakenNumber::Number {
-                value: value as i64,
-                next,
-            }
-        }
-        TakenNatural::NoNatural => TakenNumber::NoNumber,
-    }
+    let (value, next) = size?;
+    Some((i64::try_from(value).ok()?, next))
 }
 
 // The numeral at `at`, of a number that fits 64 bits with a sign. A minus sign stands only before a number other than 0.
-pub fn take_number(text: &[u8], at: usize) -> TakenNumber
+pub fn take_number(text: &[u8], at: usize) -> Numeral<i64>
     ensures { result ≡ number_at text.now at }
 {
     if num::byte_at(text, at) == 45 {

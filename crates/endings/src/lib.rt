@@ -11,10 +11,7 @@ use sizes::NUM_CHANNELS;
 pub fn turned_off(was: bool, is: bool) -> bool
     ensures { result ≡ off was is }
 {
-    if is {
-        return false;
-    }
-    was
+    was & !is
 }
 
 // A bit where something that was on is so no more, 0 otherwise.

@@ -1,5 +1,5 @@
 -- A voice's ticks from silence on keep its channel accepted and in range, and the sides are sums of as many ticks. Assumes nothing.
-use Rattle.std.proofs.Common.{◌≡◌, ℕ, zero, suc, ◌+◌, ◌^◌, ◌<◌, ◌≤◌, Bool, true, false, List, length, ℤ, sym, refl, ◌∙◌, subst, arith, w16, SFits}
+use Rattle.std.proofs.Common.{◌≡◌, ℕ, zero, suc, ◌+◌, ◌^◌, ◌<◌, ◌≤◌, Bool, true, false, List, length, ℤ, sym, refl, ◌∙◌, subst, arith, w16, SFits, Option, Some, None}
 use native.Mathlib.Nat as N
 use Rattle.num.specs.Lists.{part}
 use Rattle.num.proofs.Choice.{cond-by, both, together}
@@ -16,8 +16,6 @@ use Rattle.stream.specs.Accepted.{accepts_cache}
 use Rattle.stream.specs.Cache.{Stock, stock}
 use Rattle.stream.specs.Tick.{FoundFile, absent, unheard, present, plan_of, played_by, tick_of}
 use Rattle.stream.specs.Cached.{cached_found, cached_tick}
-use Rattle.stream.specs.declared.Plan.{Plan}
-use Rattle.stream.specs.declared.Plan.TheVariants.{Stop, Sample}
 use Rattle.stream.specs.declared.Play.{Play}
 use Rattle.stream.proofs.Keeps.{tick-keeps}
 use Rattle.ticks.specs.Again.{again}
@@ -94,9 +92,9 @@ module _ (ram : List ℕ) (p : Play) where
   found-phase phase active h (unheard s) = h
   found-phase phase active h (present i read s) = by (plan_of i p phase)
     where
-      by : (x : Plan) → (played_by read i p phase active s x).phase < 2 ^ 64
-      by Stop = h
-      by (Sample at from) = omega arith
+      by : (x : Option (ℕ × ℕ)) → (played_by read i p phase active s x).phase < 2 ^ 64
+      by None = h
+      by (Some (at, from)) = omega arith
 
   tick-phase : (phase : ℕ) (active : Bool) (s : Stock) → phase < 2 ^ 64 → (cached_tick ram p phase active s).phase < 2 ^ 64
   unfolding cached_tick

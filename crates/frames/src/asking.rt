@@ -9,45 +9,35 @@ use crate::{
 };
 use sizes::STEMS;
 
-pub(crate) fn asked(kind: u8) -> Asked
-    ensures { result ≡ asked_of kind }
-{
-    if kind == WRITE_REGISTER {
-        return Asked::WriteRegister;
+// A number that is none of the kinds asks for nothing; a read and a peek look at a register.
+impl From<u8> for Asked {
+    ghost from_gives = { λ kind asked. asked ≡ asked_of kind };
+
+    #[tactic(auto, unfolding(crate::specs::Listing::asked_of))]
+    fn from(kind: u8) -> Asked {
+        match kind {
+            WRITE_REGISTER => Asked::WriteRegister,
+            WRITE_PCM_RAM => Asked::WritePcmRam,
+            READ_REGISTER | PEEK_REGISTER => Asked::Look,
+            CLOCK => Asked::Clock,
+            SET_VERSION => Asked::SetVersion,
+            _ => Asked::Nothing,
+        }
     }
-    if kind == WRITE_PCM_RAM {
-        return Asked::WritePcmRam;
-    }
-    if kind == READ_REGISTER {
-        return Asked::Look;
-    }
-    if kind == PEEK_REGISTER {
-        return Asked::Look;
-    }
-    if kind == CLOCK {
-        return Asked::Clock;
-    }
-    if kind == SET_VERSION {
-        return Asked::SetVersion;
-    }
-    Asked::Nothing
 }
 
 // Whether a look empties a cache: a read may, a peek does not.
 pub(crate) fn look_empties(kind: u8, address: u32) -> bool
     ensures { result ≡ (if nat_eq kind read_register_kind then read_empties address else false) }
 {
-    if kind == READ_REGISTER {
-        return voices::read_empties(address);
-    }
-    false
+    kind == READ_REGISTER && voices::read_empties(address)
 }
 
 // As many calls as there are kinds, addresses and values.
 pub(crate) fn call_count(kinds: &[u8], addresses: &[u32], values: &[u8]) -> usize
     ensures { result ≡ call_count kinds.now addresses.now values.now }
 {
-    num::least(kinds.len(), num::least(addresses.len(), values.len()))
+    kinds.len().min(addresses.len().min(values.len()))
 }
 
 // The frames that a call clocks.
@@ -55,13 +45,9 @@ pub fn clocked_by(kind: u8, address: u32) -> usize
     ensures result { result ≡ clocked_as (asked_of kind) address }
     ensures upper_bound { result < 2 ^ 32 }
 {
-    match asked(kind) {
+    match Asked::from(kind) {
         Asked::Clock => address as usize,
-        Asked::WriteRegister => 0,
-        Asked::WritePcmRam => 0,
-        Asked::Look => 0,
-        Asked::SetVersion => 0,
-        Asked::Nothing => 0,
+        _ => 0,
     }
 }
 

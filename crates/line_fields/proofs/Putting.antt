@@ -18,7 +18,8 @@ use Rattle.decimal.specs.Written.{decimal, render, Put}
 use Rattle.decimal.proofs.Writing.{put-append, width-most, sample-width}
 use Rattle.line_fields.specs.Table.{is_sample, sample_of_number}
 use Rattle.line_fields.specs.Text.{field_text, part_text, parts_text, line_text, written_of, put_of}
-use Rattle.line_fields.specs.declared.Written.TheVariants.{Length, TextBuffer}
+use Rattle.std.specs.Prelude.{Ok, Err}
+use Rattle.line_fields.specs.declared.RoomError.TheVariants.{TextBuffer}
 
 pub text-sample : (k n : ℕ) → is_sample k ≡ true → field_text k n ≡ render (sample_of_number n)
 unfolding field_text
@@ -142,11 +143,11 @@ unfolding parts_text
 none-put l ns = (omega arith, refl)
 
 -- ---- a line that fits
-pub write-yes : (l m ns : List ℕ) (r : ℕ) → leb (length (line_text ns)) (length l) ≡ true → Put l m 0 (line_text ns) r → (Length r ≡ written_of l (line_text ns)) × (m ≡ put_of l (line_text ns))
-write-yes l m ns r e p = rw e (ap Length (p.0 ∙ all (length (line_text ns)) (length l) (leb-true (length (line_text ns)) (length l) e)), p.1)
+pub write-yes : (l m ns : List ℕ) (r : ℕ) → leb (length (line_text ns)) (length l) ≡ true → Put l m 0 (line_text ns) r → (Ok r ≡ written_of l (line_text ns)) × (m ≡ put_of l (line_text ns))
+write-yes l m ns r e p = rw e (ap Ok (p.0 ∙ all (length (line_text ns)) (length l) (leb-true (length (line_text ns)) (length l) e)), p.1)
   where
     all : (n m : ℕ) → n ≤ m → min (0 + n) m ≡ n
     all n m h = omega arith
 
-pub write-no : (l ns : List ℕ) → leb (length (line_text ns)) (length l) ≡ false → (TextBuffer ≡ written_of l (line_text ns)) × (l ≡ put_of l (line_text ns))
+pub write-no : (l ns : List ℕ) → leb (length (line_text ns)) (length l) ≡ false → (Err TextBuffer ≡ written_of l (line_text ns)) × (l ≡ put_of l (line_text ns))
 write-no l ns e = rw e (refl, refl)

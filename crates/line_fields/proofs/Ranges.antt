@@ -10,14 +10,6 @@ use Rattle.sizes.specs.Sizes.{fifo_capacity}
 use Rattle.num.proofs.Choice.{cond-by}
 use Rattle.line_fields.specs.Table.{is_sample, most_of, mosts}
 
-pub last-sample : (k : ℕ) → k ≡ 19 → is_sample k ≡ true
-unfolding is_sample
-last-sample k e = rw (eq-eqb k 19 e)
-
-pub held-sample : (k : ℕ) → (k ≡ 19 → ⊥) → k ≡ 21 → is_sample k ≡ true
-unfolding is_sample
-held-sample k e f = rw (ne_eqb k 19 e, eq-eqb k 21 f)
-
 pub other-sample : (k : ℕ) → (k ≡ 19 → ⊥) → (k ≡ 21 → ⊥) → is_sample k ≡ leb 282 k
 unfolding is_sample
 other-sample k e f = rw (ne_eqb k 19 e, ne_eqb k 21 f)

@@ -16,31 +16,26 @@ use borrow.Author.Tests.{eq-eqb, ne_eqb, le-leb, lt-leb}
 use Rattle.num.proofs.Choice.{cond-by}
 use Rattle.num.proofs.Lists.{sets-append}
 use Rattle.decimal.specs.Read.{natural_at, number_at}
-use Rattle.decimal.specs.declared.TakenNatural.TheVariants.{Natural}
-use Rattle.decimal.specs.declared.TakenNumber.TheVariants.{Number}
 use Rattle.line_fields.specs.Table.{is_sample, most_of}
-use Rattle.line_fields.specs.Reading.{natural_of, sample_of16, field_at, ends_at, part_at, PartsTaken, got, wrong, onto, and_then, parts_at, ReadLine, malformed, closed_at, follows, line_ended, queue_part_at, with_queue, read_line, numbers_in, parts_of, close_of, queue_fields, fields_of, line_numbers}
-use Rattle.line_fields.specs.declared.Part.{Part}
-use Rattle.line_fields.specs.declared.Part.TheVariants.{At, Malformed}
-use Rattle.line_fields.specs.declared.Parts.{Parts}
-use Rattle.line_fields.specs.declared.Parts.TheVariants as parts
-use Rattle.line_fields.specs.declared.Fields.{Fields}
-use Rattle.line_fields.specs.declared.Fields.TheVariants as fields
+use Rattle.line_fields.specs.Reading.{natural_of, sample_of16, field_at, ends_at, part_at, PartsTaken, got, wrong, onto, and_then, parts_at, ReadLine, malformed, closed_at, follows, line_ended, queue_part_at, with_queue, read_line, numbers_in, parts_of, close_of, queue_fields, fields_of, line_numbers, Part, Fields}
+use Rattle.std.specs.Prelude.{Some, Ok, Err}
+use Rattle.line_fields.specs.declared.FieldError.{FieldError}
+use Rattle.line_fields.specs.declared.FieldError.TheVariants.{Malformed}
 
 -- ---- one numeral
-pub natural-in : (field most n next : ℕ) → n ≤ most → natural_of field most (Natural n next) ≡ At n next
+pub natural-in : (field most n next : ℕ) → n ≤ most → natural_of field most (Some (n, next)) ≡ Ok (n, next)
 natural-in field most n next h = rw (le-leb n most h)
 
-pub natural-over : (field most n next : ℕ) → most < n → natural_of field most (Natural n next) ≡ Malformed field
+pub natural-over : (field most n next : ℕ) → most < n → natural_of field most (Some (n, next)) ≡ Err (Malformed field)
 natural-over field most n next h = rw (lt-leb n most h)
 
-pub sample-low : (field next : ℕ) (z : ℤ) → lt_z z (negsuc 32767) ≡ true → sample_of16 field (Number z next) ≡ Malformed field
+pub sample-low : (field next : ℕ) (z : ℤ) → lt_z z (negsuc 32767) ≡ true → sample_of16 field (Some (z, next)) ≡ Err (Malformed field)
 sample-low field next z e = rw e
 
-pub sample-high : (field next : ℕ) (z : ℤ) → lt_z z (negsuc 32767) ≡ false → lt_z (pos 32767) z ≡ true → sample_of16 field (Number z next) ≡ Malformed field
+pub sample-high : (field next : ℕ) (z : ℤ) → lt_z z (negsuc 32767) ≡ false → lt_z (pos 32767) z ≡ true → sample_of16 field (Some (z, next)) ≡ Err (Malformed field)
 sample-high field next z e f = rw (e, f)
 
-pub sample_in : (field next : ℕ) (z : ℤ) → lt_z z (negsuc 32767) ≡ false → lt_z (pos 32767) z ≡ false → sample_of16 field (Number z next) ≡ At (of_z w16 z) next
+pub sample_in : (field next : ℕ) (z : ℤ) → lt_z z (negsuc 32767) ≡ false → lt_z (pos 32767) z ≡ false → sample_of16 field (Some (z, next)) ≡ Ok (of_z w16 z, next)
 sample_in field next z e f = rw (e, f)
 
 -- ---- where a line ends
@@ -66,10 +61,10 @@ closed-out text at h = closed-other text at (λ e. absurd (none (sym (get_or-eq_
     none : ◌≡◌ {A = ℕ} 0 10 → ⊥
     none q = omega arith
 
-pub close-yes : (text : List ℕ) (count next : ℕ) → closed_at text next ≡ true → close_of text count (parts.Upto next) ≡ fields.Count count
+pub close-yes : (text : List ℕ) (count next : ℕ) → closed_at text next ≡ true → close_of text count (Ok next) ≡ Ok count
 close-yes text count next e = rw e
 
-pub close-no : (text : List ℕ) (count next : ℕ) → closed_at text next ≡ false → close_of text count (parts.Upto next) ≡ fields.Malformed (count + 1)
+pub close-no : (text : List ℕ) (count next : ℕ) → closed_at text next ≡ false → close_of text count (Ok next) ≡ Err (Malformed (count + 1))
 close-no text count next e = rw e
 
 -- ---- one field
@@ -89,11 +84,11 @@ pub part-next : (fifo : Bool) (k : ℕ) (text : List ℕ) (at : ℕ) → (k ≡ 
 unfolding part_at
 part-next fifo k text at h e = rw (ne_eqb k 0 h, eq-eqb (get_or text at 0) 44 e)
 
-pub part-missing : (fifo : Bool) (k : ℕ) (text : List ℕ) (at : ℕ) → (k ≡ 0 → ⊥) → (get_or text at 0 ≡ 44 → ⊥) → ends_at text at ≡ true → part_at fifo k text at ≡ Malformed (k + 1)
+pub part-missing : (fifo : Bool) (k : ℕ) (text : List ℕ) (at : ℕ) → (k ≡ 0 → ⊥) → (get_or text at 0 ≡ 44 → ⊥) → ends_at text at ≡ true → part_at fifo k text at ≡ Err (Malformed (k + 1))
 unfolding part_at
 part-missing fifo k text at h e f = rw (ne_eqb k 0 h, ne_eqb (get_or text at 0) 44 e, f, add-one k)
 
-pub part-before : (fifo : Bool) (k : ℕ) (text : List ℕ) (at : ℕ) → (k ≡ 0 → ⊥) → (get_or text at 0 ≡ 44 → ⊥) → ends_at text at ≡ false → part_at fifo k text at ≡ Malformed k
+pub part-before : (fifo : Bool) (k : ℕ) (text : List ℕ) (at : ℕ) → (k ≡ 0 → ⊥) → (get_or text at 0 ≡ 44 → ⊥) → ends_at text at ≡ false → part_at fifo k text at ≡ Err (Malformed k)
 unfolding part_at
 part-before fifo k text at h e f = rw (ne_eqb k 0 h, ne_eqb (get_or text at 0) 44 e, f)
 
@@ -117,14 +112,14 @@ numbers-onto n (got ns next) = refl
 numbers-onto n (wrong ns field) = refl
 
 module _ (fifo : Bool) (text : List ℕ) where
-  step : (to k end x next : ℕ) → k < to → part_at fifo k text end ≡ At x next → parts_at fifo text (to - k) k end ≡ onto x (parts_at fifo text (to - (k + 1)) (k + 1) next)
+  step : (to k end x next : ℕ) → k < to → part_at fifo k text end ≡ Ok (x, next) → parts_at fifo text (to - k) k end ≡ onto x (parts_at fifo text (to - (k + 1)) (k + 1) next)
   unfolding parts_at
   step to k end x next h e = ap (λ (n : ℕ). parts_at fifo text n k end) (one_less to k h) ∙ rw e (ap (λ (j : ℕ). onto x (parts_at fifo text (to - (k + 1)) j next)) (sym (add-one k)))
     where
       one_less : (to k : ℕ) → k < to → to - k ≡ suc (to - (k + 1))
       one_less to k h = omega arith
 
-  stop : (to k end field : ℕ) → k < to → part_at fifo k text end ≡ Malformed field → parts_at fifo text (to - k) k end ≡ wrong [] field
+  stop : (to k end field : ℕ) → k < to → part_at fifo k text end ≡ Err (Malformed field) → parts_at fifo text (to - k) k end ≡ wrong [] field
   unfolding parts_at
   stop to k end field h e = ap (λ (n : ℕ). parts_at fifo text n k end) (one_less to k h) ∙ rw e refl
     where
@@ -138,7 +133,7 @@ module _ (fifo : Bool) (text : List ℕ) where
       nought : (to k : ℕ) → to ≤ k → to - k ≡ 0
       nought to k h = omega arith
 
-  pub next_field : {goal : PartsTaken} {from to : ℕ} {before ns ms : List ℕ} {end k : ℕ} (p : Progress fifo text goal from to before ns end k) (x next : ℕ) → k < to → part_at fifo k text end ≡ At x next → ms ≡ set ns k x → Progress fifo text goal from to before ms next (k + 1)
+  pub next_field : {goal : PartsTaken} {from to : ℕ} {before ns ms : List ℕ} {end k : ℕ} (p : Progress fifo text goal from to before ns end k) (x next : ℕ) → k < to → part_at fifo k text end ≡ Ok (x, next) → ms ≡ set ns k x → Progress fifo text goal from to before ms next (k + 1)
   next_field {goal} {from} {to} {before} {ns} {ms} {end} {k} p x next h e f =
       record {
         answer = sym (ap parts_of (step to k end x next h e) ∙ parts-onto x rest) ∙ p.answer;
@@ -152,13 +147,13 @@ module _ (fifo : Bool) (text : List ℕ) where
       rest : PartsTaken
       rest = parts_at fifo text (to - (k + 1)) (k + 1) next
 
-  pub wrong-field : {goal : PartsTaken} {from to : ℕ} {before ns : List ℕ} {end k : ℕ} (p : Progress fifo text goal from to before ns end k) (field : ℕ) → k < to → part_at fifo k text end ≡ Malformed field → (parts.Malformed field ≡ parts_of goal) × (ns ≡ sets before from (numbers_in goal))
-  wrong-field {goal} {from} {to} {before} {ns} {end} {k} p field h e = (
+  pub wrong-field : {goal : PartsTaken} {from to : ℕ} {before ns : List ℕ} {end k : ℕ} (p : Progress fifo text goal from to before ns end k) (f : FieldError) → k < to → part_at fifo k text end ≡ Err f → (Err f ≡ parts_of goal) × (ns ≡ sets before from (numbers_in goal))
+  wrong-field {goal} {from} {to} {before} {ns} {end} {k} p (Malformed field) h e = (
     ap parts_of (sym (stop to k end field h e)) ∙ p.answer,
     ap (λ (t : PartsTaken). sets ns k (numbers_in t)) (sym (stop to k end field h e)) ∙ p.stored,
   )
 
-  pub last-field : {goal : PartsTaken} {from to : ℕ} {before ns : List ℕ} {end k : ℕ} (p : Progress fifo text goal from to before ns end k) → to ≤ k → (parts.Upto end ≡ parts_of goal) × (ns ≡ sets before from (numbers_in goal))
+  pub last-field : {goal : PartsTaken} {from to : ℕ} {before ns : List ℕ} {end k : ℕ} (p : Progress fifo text goal from to before ns end k) → to ≤ k → (Ok end ≡ parts_of goal) × (ns ≡ sets before from (numbers_in goal))
   last-field {goal} {from} {to} {before} {ns} {end} {k} p h = (
     ap parts_of (sym (none to k end h)) ∙ p.answer,
     ap (λ (t : PartsTaken). sets ns k (numbers_in t)) (sym (none to k end h)) ∙ p.stored,
@@ -174,8 +169,8 @@ long-onto n x (got ns next) h = ap suc h
 long-onto n x (wrong ns field) h = tt
 
 long-then : (n : ℕ) (p : Part) (rest : ℕ → ℕ → PartsTaken) → ((x next : ℕ) → Long n (rest x next)) → Long (suc n) (and_then p rest)
-long-then n (At x next) rest h = long-onto n x (rest x next) (h x next)
-long-then n (Malformed field) rest h = tt
+long-then n (Ok (x, next)) rest h = long-onto n x (rest x next) (h x next)
+long-then n (Err (Malformed field)) rest h = tt
 
 parts-long : (fifo : Bool) (text : List ℕ) (n k at : ℕ) → Long n (parts_at fifo text n k at)
 unfolding parts_at
@@ -184,22 +179,22 @@ parts-long fifo text (suc n) k at = long-then n (part_at fifo k text at) (λ x. 
 
 -- ---- the count and the samples
 queue-closed : (text : List ℕ) (n x : ℕ) (t : PartsTaken) → Long n t → close_of text (282 + n) (parts_of t) ≡ queue_fields text (onto x t)
-queue-closed text n x (got ns next) h = ap (λ (m : ℕ). close_of text m (parts.Upto next)) (more n (length ns) h)
+queue-closed text n x (got ns next) h = ap (λ (m : ℕ). close_of text m (Ok next)) (more n (length ns) h)
   where
     more : (n m : ℕ) → m ≡ n → 282 + n ≡ 281 + suc m
     more n m h = omega arith
 queue-closed text n x (wrong ns field) h = refl
 
 module _ (fifo : Bool) (text : List ℕ) where
-  pub queue-is : (at n next : ℕ) → part_at fifo 281 text at ≡ At n next → queue_part_at fifo text at ≡ onto n (parts_at fifo text n 282 next)
+  pub queue-is : (at n next : ℕ) → part_at fifo 281 text at ≡ Ok (n, next) → queue_part_at fifo text at ≡ onto n (parts_at fifo text n 282 next)
   unfolding queue_part_at
   queue-is at n next e = rw e
 
-  queue-wrong : (at field : ℕ) → part_at fifo 281 text at ≡ Malformed field → queue_part_at fifo text at ≡ wrong [] field
+  queue-wrong : (at field : ℕ) → part_at fifo 281 text at ≡ Err (Malformed field) → queue_part_at fifo text at ≡ wrong [] field
   unfolding queue_part_at
   queue-wrong at field e = rw e
 
-  pub queue-taken : (at n next : ℕ) (p : Parts) → part_at fifo 281 text at ≡ At n next → p ≡ parts_of (parts_at fifo text ((282 + n) - 282) 282 next) → close_of text (282 + n) p ≡ queue_fields text (queue_part_at fifo text at)
+  pub queue-taken : (at n next : ℕ) (p : Fields) → part_at fifo 281 text at ≡ Ok (n, next) → p ≡ parts_of (parts_at fifo text ((282 + n) - 282) 282 next) → close_of text (282 + n) p ≡ queue_fields text (queue_part_at fifo text at)
   queue-taken at n next p e f =
       ap (close_of text (282 + n)) (f ∙ ap (λ (m : ℕ). parts_of (parts_at fifo text m 282 next)) (back n))
       ∙ queue-closed text n n (parts_at fifo text n 282 next) (parts-long fifo text n 282 next)
@@ -208,7 +203,7 @@ module _ (fifo : Bool) (text : List ℕ) where
       back : (n : ℕ) → (282 + n) - 282 ≡ n
       back n = omega arith
 
-  pub queue-stored : (at n next : ℕ) (before mid after : List ℕ) → part_at fifo 281 text at ≡ At n next → mid ≡ set before 281 n → after ≡ sets mid 282 (numbers_in (parts_at fifo text ((282 + n) - 282) 282 next)) → after ≡ sets before 281 (numbers_in (queue_part_at fifo text at))
+  pub queue-stored : (at n next : ℕ) (before mid after : List ℕ) → part_at fifo 281 text at ≡ Ok (n, next) → mid ≡ set before 281 n → after ≡ sets mid 282 (numbers_in (parts_at fifo text ((282 + n) - 282) 282 next)) → after ≡ sets before 281 (numbers_in (queue_part_at fifo text at))
   queue-stored at n next before mid after e f g =
       g ∙ ap (λ (m : ℕ). sets mid 282 (numbers_in (parts_at fifo text m 282 next))) (back n)
       ∙ ap (λ (l : List ℕ). sets l 282 (numbers_in (parts_at fifo text n 282 next))) f
@@ -217,8 +212,8 @@ module _ (fifo : Bool) (text : List ℕ) where
       back : (n : ℕ) → (282 + n) - 282 ≡ n
       back n = omega arith
 
-  pub queue-refused : (at field : ℕ) (before : List ℕ) → part_at fifo 281 text at ≡ Malformed field → (fields.Malformed field ≡ queue_fields text (queue_part_at fifo text at)) × (before ≡ sets before 281 (numbers_in (queue_part_at fifo text at)))
-  queue-refused at field before e = (ap (queue_fields text) (sym (queue-wrong at field e)), ap (λ (t : PartsTaken). sets before 281 (numbers_in t)) (sym (queue-wrong at field e)))
+  pub queue-refused : (at : ℕ) (f : FieldError) (before : List ℕ) → part_at fifo 281 text at ≡ Err f → (Err f ≡ queue_fields text (queue_part_at fifo text at)) × (before ≡ sets before 281 (numbers_in (queue_part_at fifo text at)))
+  queue-refused at (Malformed field) before e = (ap (queue_fields text) (sym (queue-wrong at field e)), ap (λ (t : PartsTaken). sets before 281 (numbers_in t)) (sym (queue-wrong at field e)))
 
   -- ---- the whole line
   fields-follow : (ns : List ℕ) (t : PartsTaken) → length ns ≡ 281 → queue_fields text t ≡ fields_of (line_ended text (follows ns t))
@@ -228,9 +223,9 @@ module _ (fifo : Bool) (text : List ℕ) where
       all : length (ns ++ ms) ≡ 281 + length ms
       all = length-append ns ms ∙ ap (λ (n : ℕ). n + length ms) h
 
-      go : (b : Bool) → closed_at text next ≡ b → close_of text (281 + length ms) (parts.Upto next) ≡ fields_of (line_ended text (got (ns ++ ms) next))
-      go true e = rw e (ap fields.Count (sym all))
-      go false e = rw e (ap (λ (n : ℕ). fields.Malformed (n + 1)) (sym all))
+      go : (b : Bool) → closed_at text next ≡ b → close_of text (281 + length ms) (Ok next) ≡ fields_of (line_ended text (got (ns ++ ms) next))
+      go true e = rw e (ap Ok (sym all))
+      go false e = rw e (ap (λ (n : ℕ). Err (Malformed (n + 1))) (sym all))
 
   numbers-follow : (ns : List ℕ) (t : PartsTaken) → line_numbers (line_ended text (follows ns t)) ≡ ns ++ numbers_in t
   numbers-follow ns (wrong ms field) = refl
@@ -241,7 +236,7 @@ module _ (fifo : Bool) (text : List ℕ) where
     is : t ≡ got numbers next
     long : length numbers ≡ 281
 
-  first-parts : (t : PartsTaken) (next : ℕ) → Long 281 t → parts.Upto next ≡ parts_of t → Got t next
+  first-parts : (t : PartsTaken) (next : ℕ) → Long 281 t → Ok next ≡ parts_of t → Got t next
   first-parts (got ns at) next h e = record { numbers = ns; is = cc; long = h }
   first-parts (wrong ns field) next h e = record { numbers = ns; is = cc; long = cc }
 
@@ -253,7 +248,7 @@ module _ (fifo : Bool) (text : List ℕ) where
   unfolding read_line
   line-wrong ns field e = ap (λ (t : PartsTaken). line_ended text (with_queue fifo text t)) e
 
-  pub line_taken : (next : ℕ) (r : Fields) (before mid after : List ℕ) → parts.Upto next ≡ parts_of (parts_at fifo text 281 0 0) → mid ≡ sets before 0 (numbers_in (parts_at fifo text 281 0 0))
+  pub line_taken : (next : ℕ) (r : Fields) (before mid after : List ℕ) → Ok next ≡ parts_of (parts_at fifo text 281 0 0) → mid ≡ sets before 0 (numbers_in (parts_at fifo text 281 0 0))
       → r ≡ queue_fields text (queue_part_at fifo text next) → after ≡ sets mid 281 (numbers_in (queue_part_at fifo text next))
       → (r ≡ fields_of (read_line fifo text)) × (after ≡ sets before 0 (line_numbers (read_line fifo text)))
   line_taken next r before mid after e f g h =
@@ -268,12 +263,12 @@ module _ (fifo : Bool) (text : List ℕ) where
       start : (n : ℕ) → n ≡ 281 → 281 ≡ 0 + n
       start n e = omega arith
 
-  pub line_refused : (field : ℕ) (before after : List ℕ) → parts.Malformed field ≡ parts_of (parts_at fifo text 281 0 0) → after ≡ sets before 0 (numbers_in (parts_at fifo text 281 0 0)) → (fields.Malformed field ≡ fields_of (read_line fifo text)) × (after ≡ sets before 0 (line_numbers (read_line fifo text)))
-  line_refused field before after e f = go (parts_at fifo text 281 0 0) refl
+  pub line_refused : (f : FieldError) (before after : List ℕ) → Err f ≡ parts_of (parts_at fifo text 281 0 0) → after ≡ sets before 0 (numbers_in (parts_at fifo text 281 0 0)) → (Err f ≡ fields_of (read_line fifo text)) × (after ≡ sets before 0 (line_numbers (read_line fifo text)))
+  line_refused (Malformed field) before after e f = go (parts_at fifo text 281 0 0) refl
     where
-      go : (t : PartsTaken) → parts_at fifo text 281 0 0 ≡ t → (fields.Malformed field ≡ fields_of (read_line fifo text)) × (after ≡ sets before 0 (line_numbers (read_line fifo text)))
-      go (got ns next) q = let z : parts.Malformed field ≡ parts.Upto next = e ∙ ap parts_of q in (cc, cc)
+      go : (t : PartsTaken) → parts_at fifo text 281 0 0 ≡ t → (Err (Malformed field) ≡ fields_of (read_line fifo text)) × (after ≡ sets before 0 (line_numbers (read_line fifo text)))
+      go (got ns next) q = let z : Err (Malformed field) ≡ Ok next = e ∙ ap parts_of q in (cc, cc)
       go (wrong ns at) q =
-          let z : parts.Malformed field ≡ parts.Malformed at = e ∙ ap parts_of q in
-          let w : fields.Malformed field ≡ fields.Malformed at = cc in
+          let z : Err (Malformed field) ≡ Err (Malformed at) = e ∙ ap parts_of q in
+          let w : Err (Malformed field) ≡ Err (Malformed at) = cc in
           (w ∙ ap fields_of (sym (line-wrong ns at q)), f ∙ ap (λ (t : PartsTaken). sets before 0 (numbers_in t)) q ∙ ap (λ (t : ReadLine). sets before 0 (line_numbers t)) (sym (line-wrong ns at q)))

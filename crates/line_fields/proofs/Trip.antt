@@ -24,11 +24,11 @@ use Rattle.decimal.proofs.RoundTrip.{natural-back, number-back}
 use Rattle.line_fields.specs.Table.{is_sample, sample_of_number, most_of, mosts}
 use Rattle.line_fields.specs.Text.{field_text, part_text, parts_text, line_text}
 use Rattle.line_fields.specs.Reading.{sample_of16, natural_of, field_at, part_at, PartsTaken, got, onto, parts_at, line, closed_at, follows, line_ended, queue_part_at, with_queue, read_line}
-use Rattle.line_fields.specs.declared.Part.TheVariants.{At}
 use Rattle.line_fields.proofs.Putting.{text-sample, text-natural, first_part, later-part, sample-fits, parts-append}
 use Rattle.line_fields.proofs.Taking.{natural-in, sample_in, field-sample, field-natural, part-first, part-next, queue-is}
 use Rattle.line_fields.proofs.Bounds.{sample-most}
 use Rattle.line_fields.proofs.Good.{Within, ahead, behind}
+use Rattle.std.specs.Prelude.{Ok}
 
 pub most-below : (fifo : Bool) (k : ℕ) → most_of fifo k < 2 ^ 64
 unfolding most_of
@@ -45,41 +45,41 @@ bits_back n h = of_z-to_z w16 (n % 65536) (record { fits = omega arith }) ∙ sm
     small n h = omega arith
 
 -- ---- one field
-field_back : (fifo : Bool) (k n : ℕ) (text rest : List ℕ) (a : ℕ) → drop a text ≡ field_text k n ++ rest → digits_of rest ≡ [] → n ≤ most_of fifo k → field_at fifo k text a ≡ At n (a + length (field_text k n))
+field_back : (fifo : Bool) (k n : ℕ) (text rest : List ℕ) (a : ℕ) → drop a text ≡ field_text k n ++ rest → digits_of rest ≡ [] → n ≤ most_of fifo k → field_at fifo k text a ≡ Ok (n, a + length (field_text k n))
 field_back fifo k n text rest a e f h = go (is_sample k) refl
   where
-    go : (b : Bool) → is_sample k ≡ b → field_at fifo k text a ≡ At n (a + length (field_text k n))
+    go : (b : Bool) → is_sample k ≡ b → field_at fifo k text a ≡ Ok (n, a + length (field_text k n))
     go true s =
         let z = sample_of_number n in
         let w : SFits w16 z = sample-fits n in
         field-sample fifo k text a s
         ∙ ap (sample_of16 (k + 1)) (number-back z text rest a (widen16-64 w) (e ∙ ap (λ (l : List ℕ). l ++ rest) (text-sample k n s)) f)
         ∙ sample_in (k + 1) (a + length (render z)) z (le-lt_z z (negsuc 32767) (omega (arith, fit-down w, one-zero z))) (le-lt_z (pos 32767) z (omega (arith, fit-up w, one-zero z)))
-        ∙ ap (λ (m : ℕ). At m (a + length (render z))) (bits_back n (let q : n ≤ 65535 = rw (sample-most fifo k s) at h in q))
-        ∙ ap (λ (l : List ℕ). At n (a + length l)) (sym (text-sample k n s))
+        ∙ ap (λ (m : ℕ). Ok (m, a + length (render z))) (bits_back n (let q : n ≤ 65535 = rw (sample-most fifo k s) at h in q))
+        ∙ ap (λ (l : List ℕ). Ok (n, a + length l)) (sym (text-sample k n s))
     go false s =
         field-natural fifo k text a s
         ∙ ap (natural_of (k + 1) (most_of fifo k)) (natural-back n text rest a (omega (arith, most-below fifo k)) (e ∙ ap (λ (l : List ℕ). l ++ rest) (text-natural k n s)) f)
         ∙ natural-in (k + 1) (most_of fifo k) n (a + length (decimal n)) h
-        ∙ ap (λ (l : List ℕ). At n (a + length l)) (sym (text-natural k n s))
+        ∙ ap (λ (l : List ℕ). Ok (n, a + length l)) (sym (text-natural k n s))
 
 -- and the comma before it
-part-back : (fifo : Bool) (k n : ℕ) (text rest : List ℕ) (a : ℕ) → drop a text ≡ part_text k n ++ rest → digits_of rest ≡ [] → n ≤ most_of fifo k → part_at fifo k text a ≡ At n (a + length (part_text k n))
+part-back : (fifo : Bool) (k n : ℕ) (text rest : List ℕ) (a : ℕ) → drop a text ≡ part_text k n ++ rest → digits_of rest ≡ [] → n ≤ most_of fifo k → part_at fifo k text a ≡ Ok (n, a + length (part_text k n))
 part-back fifo k n text rest a e f h = go (eqb k 0) refl
   where
-    go : (b : Bool) → eqb k 0 ≡ b → part_at fifo k text a ≡ At n (a + length (part_text k n))
+    go : (b : Bool) → eqb k 0 ≡ b → part_at fifo k text a ≡ Ok (n, a + length (part_text k n))
     go true s =
         let z : k ≡ 0 = eqb-true k 0 s in
         part-first fifo k text a z
         ∙ field_back fifo k n text rest a (e ∙ ap (λ (l : List ℕ). l ++ rest) (first_part k n z)) f h
-        ∙ ap (λ (l : List ℕ). At n (a + length l)) (sym (first_part k n z))
+        ∙ ap (λ (l : List ℕ). Ok (n, a + length l)) (sym (first_part k n z))
     go false s =
         let z : k ≡ 0 → ⊥ = eqb-false k 0 s in
         let d : drop a text ≡ 44 ∷ (field_text k n ++ rest) = e ∙ ap (λ (l : List ℕ). l ++ rest) (later-part k n z) in
         let comma : get_or text a 0 ≡ 44 = ap (λ (j : ℕ). get_or text j 0) (sym (add-zero a)) ∙ sym (get_or-drop a text 0 0) ∙ ap (λ (l : List ℕ). get_or l 0 0) d in
         part-next fifo k text a z comma
         ∙ field_back fifo k n text rest (a + 1) (sym (drop-drop 1 a text) ∙ ap (drop 1) d) f h
-        ∙ ap (At n) (longer a (length (field_text k n)) ∙ ap (λ (l : List ℕ). a + length l) (sym (later-part k n z)))
+        ∙ ap (λ (i : ℕ). Ok (n, i)) (longer a (length (field_text k n)) ∙ ap (λ (l : List ℕ). a + length l) (sym (later-part k n z)))
       where
         longer : (a m : ℕ) → a + 1 + m ≡ a + suc m
         longer a m = omega arith
@@ -97,7 +97,7 @@ parts-back fifo text (n ∷ ns) k a rest e f w =
     let P = part_text k n in
     let R = parts_text (suc k) ns in
     let d : drop a text ≡ P ++ (R ++ rest) = e ∙ append_assoc P R rest in
-    let p : part_at fifo k text a ≡ At n (a + length P) = part-back fifo k n text (R ++ rest) a d (quiet k ns rest f) (ahead fifo k n ns w) in
+    let p : part_at fifo k text a ≡ Ok (n, a + length P) = part-back fifo k n text (R ++ rest) a d (quiet k ns rest f) (ahead fifo k n ns w) in
     let d2 : drop (a + length P) text ≡ R ++ rest = sym (drop-drop (length P) a text) ∙ ap (drop (length P)) d ∙ drop_at P (R ++ rest) (length P) refl in
     rw p (ap (onto n) (parts-back fifo text ns (suc k) (a + length P) rest d2 f (behind fifo k n ns w)) ∙ ap (got (n ∷ ns)) (long a (length P) (length R) (length (P ++ R)) (length-append P R)))
   where

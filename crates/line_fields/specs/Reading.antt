@@ -1,30 +1,30 @@
 -- A line read: its numbers, or the first field that is missing, malformed or out of range.
-use Rattle.std.specs.Prelude.{Bool, true, cond, ◌&&◌, List, [], ◌∷◌, ◌++◌, ℕ, zero, suc, ◌+◌, eqb, leb, pos, negsuc, length, get_or}
+use Rattle.std.specs.Prelude.{Bool, true, cond, ◌&&◌, List, [], ◌∷◌, ◌++◌, ℕ, zero, suc, ◌+◌, eqb, leb, ℤ, pos, negsuc, length, get_or, Some, None, Result, Ok, Err}
 use Rattle.std.specs.Int.Signed.{lt_z}
 use Rattle.std.specs.Int.{w16}
 use Rattle.std.proofs.Common.{of_z}
-use Rattle.decimal.specs.Read.{natural_at, number_at}
-use Rattle.decimal.specs.declared.TakenNatural.{TakenNatural}
-use Rattle.decimal.specs.declared.TakenNatural.TheVariants.{Natural, NoNatural}
-use Rattle.decimal.specs.declared.TakenNumber.{TakenNumber}
-use Rattle.decimal.specs.declared.TakenNumber.TheVariants.{Number, NoNumber}
+use Rattle.decimal.specs.Read.{natural_at, number_at, Numeral}
 use Rattle.line_fields.specs.Table.{is_sample, most_of, counted, fixed}
-use Rattle.line_fields.specs.declared.Part.{Part}
-use Rattle.line_fields.specs.declared.Part.TheVariants.{At, Malformed}
-use Rattle.line_fields.specs.declared.Parts.{Parts}
-use Rattle.line_fields.specs.declared.Parts.TheVariants as parts
-use Rattle.line_fields.specs.declared.Fields.{Fields}
-use Rattle.line_fields.specs.declared.Fields.TheVariants as fields
+use Rattle.line_fields.specs.declared.FieldError.{FieldError}
+use Rattle.line_fields.specs.declared.FieldError.TheVariants.{Malformed}
+
+-- a field's number and the place behind it
+abbrev pub Part : Type 0
+Part = Result (ℕ × ℕ) FieldError
+
+-- the place behind some fields, or how many fields a line has
+abbrev pub Fields : Type 0
+Fields = Result ℕ FieldError
 
 -- ---- one field; its number from 1 is `field`
 
-abbrev pub natural_of : ℕ → ℕ → TakenNatural → Part
-natural_of field most (Natural n next) = cond (leb n most) (At n next) (Malformed field)
-natural_of field most NoNatural = Malformed field
+abbrev pub natural_of : ℕ → ℕ → Numeral ℕ → Part
+natural_of field most (Some (n, next)) = cond (leb n most) (Ok (n, next)) (Err (Malformed field))
+natural_of field most None = Err (Malformed field)
 
-abbrev pub sample_of16 : ℕ → TakenNumber → Part
-sample_of16 field (Number z next) = cond (lt_z z (negsuc 32767)) (Malformed field) (cond (lt_z (pos 32767) z) (Malformed field) (At (of_z w16 z) next))
-sample_of16 field NoNumber = Malformed field
+abbrev pub sample_of16 : ℕ → Numeral ℤ → Part
+sample_of16 field (Some (z, next)) = cond (lt_z z (negsuc 32767)) (Err (Malformed field)) (cond (lt_z (pos 32767) z) (Err (Malformed field)) (Ok (of_z w16 z, next)))
+sample_of16 field None = Err (Malformed field)
 
 -- the numeral of field k
 unfoldable pub field_at : Bool → ℕ → List ℕ → ℕ → Part
@@ -40,7 +40,7 @@ unfoldable pub part_at : Bool → ℕ → List ℕ → ℕ → Part
 part_at fifo k text at =
     cond (eqb k 0) (field_at fifo k text at)
     (cond (eqb (get_or text at 0) 44) (field_at fifo k text (at + 1))
-    (Malformed (cond (ends_at text at) (suc k) k)))
+    (Err (Malformed (cond (ends_at text at) (suc k) k))))
 
 -- ---- fields one behind the other: their numbers and the place behind them, or those before the field at fault and its number
 
@@ -54,8 +54,8 @@ onto n (got ns next) = got (n ∷ ns) next
 onto n (wrong ns field) = wrong (n ∷ ns) field
 
 abbrev pub and_then : Part → (ℕ → ℕ → PartsTaken) → PartsTaken
-and_then (At n next) rest = onto n (rest n next)
-and_then (Malformed field) rest = wrong [] field
+and_then (Ok (n, next)) rest = onto n (rest n next)
+and_then (Err (Malformed field)) rest = wrong [] field
 
 -- n fields from field k on
 unfoldable pub parts_at : Bool → List ℕ → ℕ → ℕ → ℕ → PartsTaken
@@ -96,21 +96,21 @@ abbrev pub numbers_in : PartsTaken → List ℕ
 numbers_in (got ns next) = ns
 numbers_in (wrong ns field) = ns
 
-abbrev pub parts_of : PartsTaken → Parts
-parts_of (got ns next) = parts.Upto next
-parts_of (wrong ns field) = parts.Malformed field
+abbrev pub parts_of : PartsTaken → Fields
+parts_of (got ns next) = Ok next
+parts_of (wrong ns field) = Err (Malformed field)
 
-abbrev pub close_of : List ℕ → ℕ → Parts → Fields
-close_of text count (parts.Upto next) = cond (closed_at text next) (fields.Count count) (fields.Malformed (count + 1))
-close_of text count (parts.Malformed field) = fields.Malformed field
+abbrev pub close_of : List ℕ → ℕ → Fields → Fields
+close_of text count (Ok next) = cond (closed_at text next) (Ok count) (Err (Malformed (count + 1)))
+close_of text count (Err (Malformed field)) = Err (Malformed field)
 
 -- of the fields from field 281 on
 abbrev pub queue_fields : List ℕ → PartsTaken → Fields
 queue_fields text t = close_of text (counted + length (numbers_in t)) (parts_of t)
 
 abbrev pub fields_of : ReadLine → Fields
-fields_of (line ns) = fields.Count (length ns)
-fields_of (malformed ns field) = fields.Malformed field
+fields_of (line ns) = Ok (length ns)
+fields_of (malformed ns field) = Err (Malformed field)
 
 abbrev pub line_numbers : ReadLine → List ℕ
 line_numbers (line ns) = ns
@@ -118,16 +118,12 @@ line_numbers (malformed ns field) = ns
 
 -- ---- document 01's number of an answer, and the field at fault; one that is no refusal has none
 abbrev pub part_number : Part → List ℕ
-part_number (At number next) = []
-part_number (Malformed field) = 16 ∷ field ∷ []
-
-abbrev pub parts_number : Parts → List ℕ
-parts_number (parts.Upto next) = []
-parts_number (parts.Malformed field) = 16 ∷ field ∷ []
+part_number (Ok (number, next)) = []
+part_number (Err (Malformed field)) = 16 ∷ field ∷ []
 
 abbrev pub fields_number : Fields → List ℕ
-fields_number (fields.Count n) = []
-fields_number (fields.Malformed field) = 16 ∷ field ∷ []
+fields_number (Ok n) = []
+fields_number (Err (Malformed field)) = 16 ∷ field ∷ []
 
 -- of what was read
 unfoldable pub taken_refusal : PartsTaken → List ℕ

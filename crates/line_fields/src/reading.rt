@@ -3,47 +3,33 @@ ghost use Rattle.std.specs.Prelude.{◌≡◌, ◌≤◌, ◌<◌, ◌-◌};
 ghost use Rattle.std.proofs.lemmas.List.Edits.{sets};
 ghost use Rattle.line_fields.specs.Reading.{natural_of, sample_of16, field_at, ends_at, part_at, parts_at, closed_at, queue_part_at};
 ghost use Rattle.line_fields.specs.Reading.{read_line, numbers_in, parts_of, close_of, queue_fields, fields_of, line_numbers};
-ghost use Rattle.line_fields.specs.Reading.{part_number, parts_number, fields_number, taken_refusal, line_refusal};
+ghost use Rattle.line_fields.specs.Reading.{part_number, fields_number, taken_refusal, line_refusal};
 
+use crate::FieldError;
 use crate::table::{is_sample, most, put_number};
-use crate::{Fields, Part, Parts};
-use decimal::{TakenNatural, TakenNumber};
+use decimal::Numeral;
 
-fn natural_of(field: usize, greatest: u64, taken: TakenNatural) -> Part
+// A field's number and the place behind it.
+type Part = Result<(u64, usize), FieldError>;
+
+fn natural_of(field: usize, greatest: u64, taken: Numeral<u64>) -> Part
     ensures { result ≡ natural_of field greatest taken }
 {
-    match taken {
-        TakenNatural::Natural { value, next } => {
-            if value <= greatest {
-                return Part::At {
-                    number: value,
-                    next,
-                };
-            }
-            Part::Malformed(field)
-        }
-        TakenNatural::NoNatural => Part::Malformed(field),
+    let (value, next) = taken.ok_or(FieldError::Malformed(field))?;
+    if greatest < value {
+        return Err(FieldError::Malformed(field));
     }
+    Ok((value, next))
 }
 
-fn sample_of(field: usize, taken: TakenNumber) -> Part
+fn sample_of(field: usize, taken: Numeral<i64>) -> Part
     ensures { result ≡ sample_of16 field taken }
 {
-    match taken {
-        TakenNumber::Number { value, next } => {
-            if value < -32768 {
-                return Part::Malformed(field);
-            }
-            if 32767 < value {
-                return Part::Malformed(field);
-            }
-            Part::At {
-                number: num::bits16(value as i16) as u64,
-                next,
-            }
-        }
-        TakenNumber::NoNumber => Part::Malformed(field),
-    }
+    let (value, next) = taken.ok_or(FieldError::Malformed(field))?;
+    let sample = i16::try_from(value)
+        .ok()
+        .ok_or(FieldError::Malformed(field))?;
+    Ok((num::bits16(sample) as u64, next))
 }
 
 // The numeral of field k.
@@ -80,9 +66,9 @@ fn part_at(fifo: bool, k: usize, text: &[u8], at: usize) -> Part
         return field_at(fifo, k, text, at + 1);
     }
     if ends_at(text, at) {
-        return Part::Malformed(k + 1);
+        return Err(FieldError::Malformed(k + 1));
     }
-    Part::Malformed(k)
+    Err(FieldError::Malformed(k))
 }
 
 // The fields from field `from` to before field `to`.
@@ -93,27 +79,20 @@ fn take_parts(
     from: usize,
     to: usize,
     numbers: &mut [u64],
-) -> Parts
+) -> Result<usize, FieldError>
     requires { to ≤ 2330 }
     ensures result { result ≡ parts_of (parts_at fifo text.now (to - from) from at) }
     ensures numbers { numbers.new
         ≡ sets numbers.old from (numbers_in (parts_at fifo text.now (to - from) from at)) }
-    ensures number { parts_number result ≡ taken_refusal (parts_at fifo text.now (to - from) from at) }
+    ensures number { fields_number result ≡ taken_refusal (parts_at fifo text.now (to - from) from at) }
 {
     let mut end = at;
-    let mut k = from;
-    while k < to {
-        let part = part_at(fifo, k, text, end);
-        match part {
-            Part::At { number, next } => {
-                put_number(numbers, k, number);
-                end = next;
-            }
-            Part::Malformed(field) => return Parts::Malformed(field),
-        }
-        k += 1;
+    for k in from..to {
+        let (number, next) = part_at(fifo, k, text, end)?;
+        put_number(numbers, k, number);
+        end = next;
     }
-    Parts::Upto(end)
+    Ok(end)
 }
 
 // Whether nothing but one byte 10 stands from a place on.
@@ -129,47 +108,35 @@ pub fn closed(text: &[u8], at: usize) -> bool
 }
 
 // What a line is whose fields are taken.
-fn close(text: &[u8], taken: Parts, count: usize) -> Fields
+fn close(text: &[u8], taken: Result<usize, FieldError>, count: usize) -> Result<usize, FieldError>
     requires { count ≤ 2330 }
     ensures { result ≡ close_of text.now count taken }
 {
-    match taken {
-        Parts::Upto(next) => {
-            if closed(text, next) {
-                return Fields::Count(count);
-            }
-            Fields::Malformed(count + 1)
-        }
-        Parts::Malformed(field) => Fields::Malformed(field),
+    let next = taken?;
+    if closed(text, next) {
+        return Ok(count);
     }
+    Err(FieldError::Malformed(count + 1))
 }
 
 // The queue's count and samples, and the line's end.
-fn read_queue(fifo: bool, text: &[u8], at: usize, numbers: &mut [u64]) -> Fields
+fn read_queue(fifo: bool, text: &[u8], at: usize, numbers: &mut [u64]) -> Result<usize, FieldError>
     ensures result { result ≡ queue_fields text.now (queue_part_at fifo text.now at) }
     ensures numbers { numbers.new ≡ sets numbers.old 281 (numbers_in (queue_part_at fifo text.now at)) }
 {
-    let part = part_at(fifo, 281, text, at);
-    match part {
-        Part::At { number, next } => {
-            put_number(numbers, 281, number);
-            let to = 282 + (number as usize);
-            let samples = take_parts(fifo, text, next, 282, to, numbers);
-            close(text, samples, to)
-        }
-        Part::Malformed(field) => Fields::Malformed(field),
-    }
+    let (count, next) = part_at(fifo, 281, text, at)?;
+    put_number(numbers, 281, count);
+    let to = 282 + (count as usize);
+    let samples = take_parts(fifo, text, next, 282, to, numbers);
+    close(text, samples, to)
 }
 
 // Reads a voice line: its numbers, as far as they are in order, are put into a buffer as far as there is room.
-pub fn read_line(fifo: bool, text: &[u8], numbers: &mut [u64]) -> Fields
+pub fn read_line(fifo: bool, text: &[u8], numbers: &mut [u64]) -> Result<usize, FieldError>
     ensures result { result ≡ fields_of (read_line fifo text.now) }
     ensures numbers { numbers.new ≡ sets numbers.old 0 (line_numbers (read_line fifo text.now)) }
     ensures number { fields_number result ≡ line_refusal (read_line fifo text.now) }
 {
-    let first = take_parts(fifo, text, 0, 0, 281, numbers);
-    match first {
-        Parts::Upto(next) => read_queue(fifo, text, next, numbers),
-        Parts::Malformed(field) => Fields::Malformed(field),
-    }
+    let next = take_parts(fifo, text, 0, 0, 281, numbers)?;
+    read_queue(fifo, text, next, numbers)
 }

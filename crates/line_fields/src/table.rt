@@ -35,16 +35,11 @@ const MOST: [u64; 25] = [
 ];
 
 // Whether a field is written with a sign.
+#[tactic(auto, unfolding(crate::specs::Table::is_sample))]
 pub(crate) fn is_sample(k: usize) -> bool
     ensures { result ≡ is_sample k }
 {
-    if k == 19 {
-        return true;
-    }
-    if k == 21 {
-        return true;
-    }
-    282 <= k
+    k == 19 || k == 21 || 282 <= k
 }
 
 // The greatest number of a field; `fifo`: the version has FIFO voices.
@@ -81,7 +76,7 @@ pub fn sample(number: u64) -> i16
 pub fn number_at(numbers: &[u64], k: usize) -> u64
     ensures { result ≡ get_or numbers.now k 0 }
 {
-    if k < numbers.len() { numbers[k] } else { 0 }
+    numbers.get(k).copied().unwrap_or(0)
 }
 
 // Puts a field's number at its place, if there is one.

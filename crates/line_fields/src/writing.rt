@@ -3,7 +3,7 @@ ghost use Rattle.std.specs.Prelude.{◌≡◌, leb, length};
 ghost use Rattle.decimal.specs.Written.{Put};
 ghost use Rattle.line_fields.specs.Text.{field_text, part_text, line_text, written_of, put_of, written_number, room_refusal};
 
-use crate::Written;
+use crate::RoomError;
 use crate::table::{is_sample, sample};
 
 // Puts field k's numeral into out from `at` on, as far as there is room, and answers the place behind it, at most out's end.
@@ -50,14 +50,12 @@ fn fits(numbers: &[u64], room: usize) -> bool
     ensures { result ≡ leb (length (line_text numbers.now)) room }
 {
     let mut left = room;
-    let mut k = 0;
-    while k < numbers.len() {
-        let width = part_width(k, numbers[k]);
+    for (k, &number) in numbers.iter().enumerate() {
+        let width = part_width(k, number);
         if left < width {
             return false;
         }
         left -= width;
-        k += 1;
     }
     0 < left
 }
@@ -67,22 +65,20 @@ pub fn put_line(numbers: &[u64], out: &mut [u8]) -> usize
     ensures { Put out.old out.new 0 (line_text numbers.now) result }
 {
     let mut at = 0;
-    let mut k = 0;
-    while k < numbers.len() {
-        at = put_part(out, at, k, numbers[k]);
-        k += 1;
+    for (k, &number) in numbers.iter().enumerate() {
+        at = put_part(out, at, k, number);
     }
     decimal::put_byte(out, at, 10)
 }
 
 // Writes the line of some numbers, if there is room for it.
-pub fn write_line(numbers: &[u64], out: &mut [u8]) -> Written
+pub fn write_line(numbers: &[u64], out: &mut [u8]) -> Result<usize, RoomError>
     ensures result { result ≡ written_of out.old (line_text numbers.now) }
     ensures out { out.new ≡ put_of out.old (line_text numbers.now) }
     ensures number { written_number result ≡ room_refusal out.old (line_text numbers.now) }
 {
     if fits(numbers, out.len()) {
-        return Written::Length(put_line(numbers, out));
+        return Ok(put_line(numbers, out));
     }
-    Written::TextBuffer
+    Err(RoomError::TextBuffer)
 }

@@ -6,88 +6,84 @@ use native.Mathlib.Omega.{arith}
 use lib.Dec.{eqb, leb}
 use lib.ListN.{length, get_or}
 use borrow.Author.Tests.{leb-true}
+use Rattle.std.specs.Prelude.{Option, Some, None, Result, Ok, Err}
 use Rattle.num.proofs.Choice.{cond-by}
-use Rattle.decimal.specs.declared.TakenNatural.{TakenNatural}
-use Rattle.decimal.specs.declared.TakenNatural.TheVariants.{Natural, NoNatural}
-use Rattle.decimal.specs.Read.{natural_at}
+use Rattle.decimal.specs.Read.{natural_at, Numeral}
 use Rattle.log_lines.specs.declared.Line.{Line}
-use Rattle.log_lines.specs.declared.Line.TheVariants.{Write, WriteRam, Read, Peek, Clock, Version, Malformed, Unmapped}
-use Rattle.log_lines.specs.declared.One.{One}
-use Rattle.log_lines.specs.declared.One.TheVariants.{Number, NoNumber}
-use Rattle.log_lines.specs.declared.Two.{Two}
-use Rattle.log_lines.specs.declared.Two.TheVariants.{Numbers, NoNumbers}
+use Rattle.log_lines.specs.declared.Line.TheVariants.{Write, WriteRam, Read, Peek, Clock, Version}
+use Rattle.log_lines.specs.declared.LineFault.{LineFault}
+use Rattle.log_lines.specs.declared.LineFault.TheVariants.{Malformed, Unmapped}
 use Rattle.log_lines.specs.Lines.{one_of, one_at, Within, address_and, two_of, two_at, is_mapped, addressed, as_write, written_ram, read_of, peek_of, clock_of, as_version, by_kind, parsed_line}
 
-abbrev FitTwo : Two → Type 0
-FitTwo (Numbers a v) = v < 256
-FitTwo NoNumbers = Unit {0}
+abbrev FitTwo : Option (ℕ × ℕ) → Type 0
+FitTwo (Some (a, v)) = v < 256
+FitTwo None = Unit {0}
 
 one-fits : (text : List ℕ) (at most : ℕ) → Within most (one_at text at most)
 unfolding one_at
 one-fits text at most = go (natural_at text at)
   where
-    go : (t : TakenNatural) → Within most (one_of text most t)
-    go (Natural n next) = cond-by (Within most) (eqb next (length text)) (cond (leb n most) (Number n) NoNumber) NoNumber (λ e. cond-by (Within most) (leb n most) (Number n) NoNumber (leb-true n most) (λ e. tt)) (λ e. tt)
-    go NoNatural = tt
+    go : (t : Numeral ℕ) → Within most (one_of text most t)
+    go (Some (n, next)) = cond-by (Within most) (eqb next (length text)) (cond (leb n most) (Some n) None) None (λ e. cond-by (Within most) (leb n most) (Some n) None (leb-true n most) (λ e. tt)) (λ e. tt)
+    go None = tt
 
-byte_fits : (a : ℕ) (o : One) → Within 255 o → FitTwo (address_and a o)
-byte_fits a (Number v) h = omega (arith, h)
-byte_fits a NoNumber h = tt
+byte_fits : (a : ℕ) (o : Option ℕ) → Within 255 o → FitTwo (address_and a o)
+byte_fits a (Some v) h = omega (arith, h)
+byte_fits a None h = tt
 
 two_fits : (text : List ℕ) (at : ℕ) → FitTwo (two_at text at)
 unfolding two_at
 two_fits text at = go (natural_at text at)
   where
-    go : (t : TakenNatural) → FitTwo (two_of text t)
-    go (Natural a next) =
-        cond-by FitTwo (leb a 4294967295) (cond (eqb (get_or text next 0) 44) (address_and a (one_at text (next + 1) 255)) NoNumbers) NoNumbers
-        (λ e. cond-by FitTwo (eqb (get_or text next 0) 44) (address_and a (one_at text (next + 1) 255)) NoNumbers (λ f. byte_fits a (one_at text (next + 1) 255) (one-fits text (next + 1) 255)) (λ f. tt))
+    go : (t : Numeral ℕ) → FitTwo (two_of text t)
+    go (Some (a, next)) =
+        cond-by FitTwo (leb a 4294967295) (cond (eqb (get_or text next 0) 44) (address_and a (one_at text (next + 1) 255)) None) None
+        (λ e. cond-by FitTwo (eqb (get_or text next 0) 44) (address_and a (one_at text (next + 1) 255)) None (λ f. byte_fits a (one_at text (next + 1) 255) (one-fits text (next + 1) 255)) (λ f. tt))
         (λ e. tt)
-    go NoNatural = tt
+    go None = tt
 
-abbrev pub FitLine : Line → Type 0
-FitLine (Write a v) = v < 256
-FitLine (WriteRam a v) = v < 256
-FitLine (Read a) = Unit {0}
-FitLine (Peek a) = Unit {0}
-FitLine (Clock n) = n ≤ 1000
-FitLine (Version v) = Unit {0}
-FitLine Malformed = Unit {0}
-FitLine Unmapped = Unit {0}
+abbrev pub FitLine : Result Line LineFault → Type 0
+FitLine (Ok (Write a v)) = v < 256
+FitLine (Ok (WriteRam a v)) = v < 256
+FitLine (Ok (Read a)) = Unit {0}
+FitLine (Ok (Peek a)) = Unit {0}
+FitLine (Ok (Clock n)) = n ≤ 1000
+FitLine (Ok (Version v)) = Unit {0}
+FitLine (Err why) = Unit {0}
 
-addressed-fits : (kind a : ℕ) (line : Line) → FitLine line → FitLine (addressed kind a line)
+addressed-fits : (kind a : ℕ) (line : Line) → FitLine (Ok line) → FitLine (addressed kind a line)
 unfolding addressed
-addressed-fits kind a line h = cond-by FitLine (is_mapped kind a) line Unmapped (λ e. h) (λ e. tt)
+addressed-fits kind a line h = cond-by FitLine (is_mapped kind a) (Ok line) (Err Unmapped) (λ e. h) (λ e. tt)
 
-written-fits : (t : Two) → FitTwo t → FitLine (as_write t)
-written-fits (Numbers a v) h = addressed-fits 87 a (Write a v) h
-written-fits NoNumbers h = tt
+written-fits : (t : Option (ℕ × ℕ)) → FitTwo t → FitLine (as_write t)
+written-fits (Some (a, v)) h = addressed-fits 87 a (Write a v) h
+written-fits None h = tt
 
-ram-fits : (t : Two) → FitTwo t → FitLine (written_ram t)
-ram-fits (Numbers a v) h = addressed-fits 77 a (WriteRam a v) h
-ram-fits NoNumbers h = tt
+ram-fits : (t : Option (ℕ × ℕ)) → FitTwo t → FitLine (written_ram t)
+ram-fits (Some (a, v)) h = addressed-fits 77 a (WriteRam a v) h
+ram-fits None h = tt
 
-read_fits : (o : One) → FitLine (read_of o)
-read_fits (Number a) = addressed-fits 82 a (Read a) tt
-read_fits NoNumber = tt
+read_fits : (o : Option ℕ) → FitLine (read_of o)
+read_fits (Some a) = addressed-fits 82 a (Read a) tt
+read_fits None = tt
 
-peek-fits : (o : One) → FitLine (peek_of o)
-peek-fits (Number a) = addressed-fits 80 a (Peek a) tt
-peek-fits NoNumber = tt
+peek-fits : (o : Option ℕ) → FitLine (peek_of o)
+peek-fits (Some a) = addressed-fits 80 a (Peek a) tt
+peek-fits None = tt
 
-clock-fits : (o : One) → Within 1000 o → FitLine (clock_of o)
-clock-fits (Number n) h = cond-by FitLine (eqb n 0) Malformed (Clock n) (λ e. tt) (λ e. h)
-clock-fits NoNumber h = tt
+clock-fits : (o : Option ℕ) → Within 1000 o → FitLine (clock_of o)
+clock-fits (Some n) h = cond-by FitLine (eqb n 0) (Err Malformed) (Ok (Clock n)) (λ e. tt) (λ e. h)
+clock-fits None h = tt
 
-version-fits : (o : One) → FitLine (as_version o)
-version-fits (Number v) = tt
-version-fits NoNumber = tt
+version-fits : (o : Option ℕ) → FitLine (as_version o)
+version-fits (Some v) = tt
+version-fits None = tt
 
 pub line-fits : (text : List ℕ) → FitLine (parsed_line text)
 unfolding parsed_line
 line-fits text =
     let k = get_or text 0 0 in
-    cond-by FitLine (eqb (get_or text 1 0) 44) (by_kind text k) Malformed
+    cond-by FitLine (eqb (get_or text 1 0) 44) (by_kind text k) (Err Malformed)
     (λ e.
     cond-by FitLine (eqb k 87) _ _ (λ e. written-fits (two_at text 2) (two_fits text 2)) (λ e.
     cond-by FitLine (eqb k 77) _ _ (λ e. ram-fits (two_at text 2) (two_fits text 2)) (λ e.

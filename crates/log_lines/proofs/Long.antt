@@ -7,39 +7,35 @@ use native.Mathlib.Omega.{arith}
 use lib.Dec.{eqb, leb}
 use lib.ListN.{length, drop, get_or, length-append, length-drop}
 use borrow.Author.Tests.{eqb-true, leb-true, eq-eqb}
+use Rattle.std.specs.Prelude.{Option, Some, None, Result, Err}
 use Rattle.num.proofs.Choice.{cond-by}
 use Rattle.decimal.specs.Written.{decimal}
-use Rattle.decimal.specs.Read.{natural_at}
-use Rattle.decimal.specs.declared.TakenNatural.{TakenNatural}
-use Rattle.decimal.specs.declared.TakenNatural.TheVariants.{Natural, NoNatural}
+use Rattle.decimal.specs.Read.{natural_at, Numeral}
 use Rattle.decimal.proofs.Writing.{width-below}
 use Rattle.decimal.proofs.RoundTrip.{natural-only-written}
 use Rattle.log_lines.specs.declared.Line.{Line}
-use Rattle.log_lines.specs.declared.Line.TheVariants.{Malformed}
-use Rattle.log_lines.specs.declared.One.{One}
-use Rattle.log_lines.specs.declared.One.TheVariants.{Number, NoNumber}
-use Rattle.log_lines.specs.declared.Two.{Two}
-use Rattle.log_lines.specs.declared.Two.TheVariants.{Numbers, NoNumbers}
+use Rattle.log_lines.specs.declared.LineFault.{LineFault}
+use Rattle.log_lines.specs.declared.LineFault.TheVariants.{Malformed}
 use Rattle.log_lines.specs.Lines.{one_of, one_at, address_and, two_of, two_at, as_write, written_ram, read_of, peek_of, clock_of, as_version, parsed_line}
 use Rattle.log_lines.proofs.Commas.{comma-inside}
 
 -- a text is no longer than what stands before a numeral, the numeral and what stands behind it
-around : (text : List ℕ) (at next n : ℕ) → natural_at text at ≡ Natural n next → length text ≤ at + length (decimal n) + (length text - next)
+around : (text : List ℕ) (at next n : ℕ) → natural_at text at ≡ Some (n, next) → length text ≤ at + length (decimal n) + (length text - next)
 around text at next n e =
     let b : length (drop at text) ≡ length (decimal n) + length (drop next text) = ap length (natural-only-written n text at next e) ∙ length-append (decimal n) (drop next text) in
     omega (arith, length-drop at text, length-drop next text)
 
 -- a number of k digits at most, and then the end
-short-one : (text : List ℕ) (at most k n : ℕ) → most < 10 ^ suc k → one_at text at most ≡ Number n → length text ≤ at + suc k
+short-one : (text : List ℕ) (at most k n : ℕ) → most < 10 ^ suc k → one_at text at most ≡ Some n → length text ≤ at + suc k
 unfolding one_at
 short-one text at most k n h = go (natural_at text at) refl
   where
-    none : {A : Type 0} → NoNumber ≡ Number n → A
+    none : {A : Type 0} → ◌≡◌ {A = Option ℕ} None (Some n) → A
     none e = absurd (let z : ◌≡◌ {A = ℕ} 0 1 = cc in omega arith)
 
-    go : (t : TakenNatural) → natural_at text at ≡ t → one_of text most t ≡ Number n → length text ≤ at + suc k
-    go NoNatural e q = none q
-    go (Natural m next) e q = ends (eqb next (length text)) refl
+    go : (t : Numeral ℕ) → natural_at text at ≡ t → one_of text most t ≡ Some n → length text ≤ at + suc k
+    go None e q = none q
+    go (Some (m, next)) e q = ends (eqb next (length text)) refl
       where
         within : next ≡ length text → (b : Bool) → leb m most ≡ b → length text ≤ at + suc k
         within t true u = omega (arith, around text at next m e, width-below k m (omega (arith, leb-true m most u)))
@@ -50,20 +46,20 @@ short-one text at most k n h = go (natural_at text at) refl
         ends false t = none (sym (rw t) ∙ q)
 
 -- an address, a comma and a byte, and then the end
-short-two : (text : List ℕ) (at a v : ℕ) → two_at text at ≡ Numbers a v → length text ≤ at + 14
+short-two : (text : List ℕ) (at a v : ℕ) → ◌≡◌ {A = Option (ℕ × ℕ)} (two_at text at) (Some (a, v)) → length text ≤ at + 14
 unfolding two_at
 short-two text at a v = go (natural_at text at) refl
   where
-    none : {A : Type 0} → NoNumbers ≡ Numbers a v → A
+    none : {A : Type 0} → ◌≡◌ {A = Option (ℕ × ℕ)} None (Some (a, v)) → A
     none e = absurd (let z : ◌≡◌ {A = ℕ} 0 1 = cc in omega arith)
 
-    go : (t : TakenNatural) → natural_at text at ≡ t → two_of text t ≡ Numbers a v → length text ≤ at + 14
-    go NoNatural e q = none q
-    go (Natural m next) e q = low (leb m 4294967295) refl
+    go : (t : Numeral ℕ) → natural_at text at ≡ t → ◌≡◌ {A = Option (ℕ × ℕ)} (two_of text t) (Some (a, v)) → length text ≤ at + 14
+    go None e q = none q
+    go (Some (m, next)) e q = low (leb m 4294967295) refl
       where
-        byte : m ≤ 4294967295 → get_or text next 0 ≡ 44 → (o : One) → one_at text (next + 1) 255 ≡ o → address_and m o ≡ Numbers a v → length text ≤ at + 14
-        byte t u NoNumber o r = none r
-        byte t u (Number b) o r =
+        byte : m ≤ 4294967295 → get_or text next 0 ≡ 44 → (o : Option ℕ) → one_at text (next + 1) 255 ≡ o → ◌≡◌ {A = Option (ℕ × ℕ)} (address_and m o) (Some (a, v)) → length text ≤ at + 14
+        byte t u None o r = none r
+        byte t u (Some b) o r =
             omega (arith, around text at next m e, width-below 9 m (omega arith), comma-inside text next u, short-one text (next + 1) 255 2 b (omega arith) o)
 
         parted : m ≤ 4294967295 → (b : Bool) → eqb (get_or text next 0) 44 ≡ b → leb m 4294967295 ≡ true → length text ≤ at + 14
@@ -76,18 +72,18 @@ short-two text at a v = go (natural_at text at) refl
 
 -- ---- the line
 module _ (text : List ℕ) (h : 16 < length text) where
-  two : (f : Two → Line) → f NoNumbers ≡ Malformed → (t : Two) → two_at text 2 ≡ t → f t ≡ Malformed
-  two f n NoNumbers e = n
-  two f n (Numbers a v) e = absurd (omega (arith, short-two text 2 a v e))
+  two : (f : Option (ℕ × ℕ) → Result Line LineFault) → f None ≡ Err Malformed → (t : Option (ℕ × ℕ)) → two_at text 2 ≡ t → f t ≡ Err Malformed
+  two f n None e = n
+  two f n (Some (a, v)) e = absurd (omega (arith, short-two text 2 a v e))
 
-  one : (f : One → Line) (most : ℕ) → most < 10 ^ 10 → f NoNumber ≡ Malformed → (t : One) → one_at text 2 most ≡ t → f t ≡ Malformed
-  one f most k n NoNumber e = n
-  one f most k n (Number m) e = absurd (omega (arith, short-one text 2 most 9 m k e))
+  one : (f : Option ℕ → Result Line LineFault) (most : ℕ) → most < 10 ^ 10 → f None ≡ Err Malformed → (t : Option ℕ) → one_at text 2 most ≡ t → f t ≡ Err Malformed
+  one f most k n None e = n
+  one f most k n (Some m) e = absurd (omega (arith, short-one text 2 most 9 m k e))
 
-  abbrev Is : Line → Type 0
-  Is l = l ≡ Malformed
+  abbrev Is : Result Line LineFault → Type 0
+  Is l = l ≡ Err Malformed
 
-  pub long-line : parsed_line text ≡ Malformed
+  pub long-line : parsed_line text ≡ Err Malformed
   unfolding parsed_line
   long-line =
       cond-by Is (eqb (get_or text 1 0) 44) _ _

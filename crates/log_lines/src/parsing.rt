@@ -1,48 +1,38 @@
 // A line, without its closing byte 10, taken apart.
-ghost use Rattle.std.specs.Prelude.{◌≡◌, get_or};
+ghost use Rattle.std.specs.Prelude.{◌≡◌};
 ghost use Rattle.log_lines.specs.Lines.{Within, one_at, two_at, is_mapped, addressed, as_write, written_ram, read_of, peek_of, clock_of};
 ghost use Rattle.log_lines.specs.Lines.{as_version, parsed_line, number_of};
 
-use crate::{Line, One, Two};
-use decimal::TakenNatural;
+use crate::{Line, LineFault};
 
 // The numeral from `at` to the end, of a number that is at most `most`.
-fn one_number(text: &[u8], at: usize, most: u32) -> One
+fn one_number(text: &[u8], at: usize, most: u32) -> Option<u32>
     ensures result { result ≡ one_at text.now at most }
     ensures within { Within most result }
 {
-    let taken = decimal::take_natural(text, at);
-    let TakenNatural::Natural { value, next } = taken else {
-        return One::NoNumber;
-    };
+    let (value, next) = decimal::take_natural(text, at)?;
     if next != text.len() {
-        return One::NoNumber;
+        return None;
     }
     if (most as u64) < value {
-        return One::NoNumber;
+        return None;
     }
-    One::Number(value as u32)
+    Some(value as u32)
 }
 
 // An address and a byte, from `at` to the end.
-fn two_numbers(text: &[u8], at: usize) -> Two
+fn two_numbers(text: &[u8], at: usize) -> Option<(u32, u8)>
     ensures { result ≡ two_at text.now at }
 {
-    let taken = decimal::take_natural(text, at);
-    let TakenNatural::Natural { value, next } = taken else {
-        return Two::NoNumbers;
-    };
+    let (value, next) = decimal::take_natural(text, at)?;
     if 0xFFFF_FFFF < value {
-        return Two::NoNumbers;
+        return None;
     }
     if num::byte_at(text, next) != 44 {
-        return Two::NoNumbers;
+        return None;
     }
-    let second = one_number(text, next + 1, 255);
-    let One::Number(byte) = second else {
-        return Two::NoNumbers;
-    };
-    Two::Numbers(value as u32, byte as u8)
+    let byte = one_number(text, next + 1, 255)?;
+    Some((value as u32, byte as u8))
 }
 
 // Whether there is such an address: an `M` line (77) names a byte of the RAM, any other line a register.
@@ -56,98 +46,94 @@ fn is_mapped(kind: u8, address: u32) -> bool
 }
 
 // A line of this kind and address, where there is such an address.
-fn addressed(kind: u8, address: u32, line: Line) -> Line
+fn addressed(kind: u8, address: u32, line: Line) -> Result<Line, LineFault>
     ensures { result ≡ addressed kind address line }
 {
     if is_mapped(kind, address) {
-        return line;
+        return Ok(line);
     }
-    Line::Unmapped
+    Err(LineFault::Unmapped)
 }
 
-fn write_of(two: Two) -> Line
+fn write_of(two: Option<(u32, u8)>) -> Result<Line, LineFault>
     ensures { result ≡ as_write two }
 {
     match two {
-        Two::Numbers(address, value) => addressed(87, address, Line::Write { address, value }),
-        Two::NoNumbers => Line::Malformed,
+        Some((address, value)) => addressed(87, address, Line::Write { address, value }),
+        None => Err(LineFault::Malformed),
     }
 }
 
-fn write_ram_of(two: Two) -> Line
+fn write_ram_of(two: Option<(u32, u8)>) -> Result<Line, LineFault>
     ensures { result ≡ written_ram two }
 {
     match two {
-        Two::Numbers(address, value) => addressed(77, address, Line::WriteRam { address, value }),
-        Two::NoNumbers => Line::Malformed,
+        Some((address, value)) => addressed(77, address, Line::WriteRam { address, value }),
+        None => Err(LineFault::Malformed),
     }
 }
 
-fn read_of(one: One) -> Line
+fn read_of(one: Option<u32>) -> Result<Line, LineFault>
     ensures { result ≡ read_of one }
 {
     match one {
-        One::Number(address) => addressed(82, address, Line::Read(address)),
-        One::NoNumber => Line::Malformed,
+        Some(address) => addressed(82, address, Line::Read(address)),
+        None => Err(LineFault::Malformed),
     }
 }
 
-fn peek_of(one: One) -> Line
+fn peek_of(one: Option<u32>) -> Result<Line, LineFault>
     ensures { result ≡ peek_of one }
 {
     match one {
-        One::Number(address) => addressed(80, address, Line::Peek(address)),
-        One::NoNumber => Line::Malformed,
+        Some(address) => addressed(80, address, Line::Peek(address)),
+        None => Err(LineFault::Malformed),
     }
 }
 
-fn clock_of(one: One) -> Line
+fn clock_of(one: Option<u32>) -> Result<Line, LineFault>
     ensures { result ≡ clock_of one }
 {
     match one {
-        One::Number(frames) => {
+        Some(frames) => {
             if frames == 0 {
-                return Line::Malformed;
+                return Err(LineFault::Malformed);
             }
-            Line::Clock(frames)
+            Ok(Line::Clock(frames))
         }
-        One::NoNumber => Line::Malformed,
+        None => Err(LineFault::Malformed),
     }
 }
 
-fn version_of(one: One) -> Line
+fn version_of(one: Option<u32>) -> Result<Line, LineFault>
     ensures { result ≡ as_version one }
 {
     match one {
-        One::Number(version) => Line::Version(version),
-        One::NoNumber => Line::Malformed,
+        Some(version) => Ok(Line::Version(version)),
+        None => Err(LineFault::Malformed),
     }
 }
 
-impl Line {
-    // The number of a bad line (docs/SPECIFICATION.md, section 12); 0 where it is none.
+impl LineFault {
+    // The number of a bad line (docs/SPECIFICATION.md, section 12).
     pub fn number(self) -> u8
-        ensures { result ≡ get_or (number_of self) 0 0 }
+        ensures { result ≡ number_of self }
     {
         match self {
-            Line::Write { .. } => 0,
-            Line::WriteRam { .. } => 0,
-            Line::Read(_) => 0,
-            Line::Peek(_) => 0,
-            Line::Clock(_) => 0,
-            Line::Version(_) => 0,
-            Line::Malformed => crate::MALFORMED,
-            Line::Unmapped => crate::UNMAPPED,
+            LineFault::Malformed => 17,
+            LineFault::Unmapped => 27,
+            LineFault::Late => 18,
+            LineFault::Crowded => 19,
         }
     }
 }
 
 // What a line asks for.
-pub fn parse(text: &[u8]) -> Line
+pub fn parse(text: &[u8]) -> Result<Line, LineFault>
     ensures { result ≡ parsed_line text.now }
 {
     if num::byte_at(text, 1) != 44 {
-        return Line::Malformed;
+        return Err(LineFault::Malformed);
     }
     let kind = num::byte_at(text, 0);
     match kind {
@@ -157,6 +143,6 @@ pub fn parse(text: &[u8]) -> Line
         80 => peek_of(one_number(text, 2, 0xFFFF_FFFF)),
         67 => clock_of(one_number(text, 2, 1000)),
         86 => version_of(one_number(text, 2, sizes::LAST_VERSION)),
-        _ => Line::Malformed,
+        _ => Err(LineFault::Malformed),
     }
 }

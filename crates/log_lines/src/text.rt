@@ -1,5 +1,5 @@
 // What a log prints, and the largest frame values.
-ghost use Rattle.std.specs.Prelude.{◌≡◌, ◌*◌, ◌≤◌, min, max, length};
+ghost use Rattle.std.specs.Prelude.{◌≡◌, ◌*◌, ◌≤◌, min, length};
 ghost use Rattle.decimal.specs.Written.{Put};
 ghost use Rattle.log_lines.specs.Texts.{comma_field, pair_line, frame_line, frame_lines, read_back_line, bad_line, peak_line, peak_of};
 
@@ -38,12 +38,10 @@ pub fn put_frames(out: &mut [u8], at: usize, left: &[i32], right: &[i32]) -> usi
     ensures bound { length (frame_lines left.now right.now
         (min (length left.now) (length right.now))) ≤ 16 * min (length left.now) (length right.now) }
 {
-    let frames = num::least(left.len(), right.len());
-    let mut end = num::least(at, out.len());
-    let mut i = 0;
-    while i < frames {
+    let frames = left.len().min(right.len());
+    let mut end = at.min(out.len());
+    for i in 0..frames {
         end = put_frame(out, end, left[i], right[i]);
-        i += 1;
     }
     end
 }
@@ -76,21 +74,13 @@ pub fn put_peak(out: &mut [u8], at: usize, left: u32, right: u32) -> usize
     put_pair(out, at, b"peak", left as i64, right as i64)
 }
 
-fn larger(a: u32, b: u32) -> u32
-    ensures { result ≡ max a b }
-{
-    if a < b { b } else { a }
-}
-
 // The largest of a number and a side's sizes.
 pub fn peak(before: u32, side: &[i32]) -> u32
     ensures { result ≡ peak_of before side.now (length side.now) }
 {
     let mut largest = before;
-    let mut i = 0;
-    while i < side.len() {
-        largest = larger(largest, num::magnitude(side[i]));
-        i += 1;
+    for &value in side {
+        largest = largest.max(num::magnitude(value));
     }
     largest
 }

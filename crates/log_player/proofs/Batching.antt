@@ -1,4 +1,5 @@
 -- Lines of an input gathered, one more at a time. Assumes nothing.
+use Rattle.std.specs.Prelude.{Result, Ok, Some, None, Err}
 use mathlib.Core.Path.{◌≡◌, refl, sym, ap, ap₂, ◌∙◌, subst}
 use mathlib.Core.Bool.{Bool, true, false, cond}
 use mathlib.Core.List.{List, [], ◌++◌, append_assoc, append-nil}
@@ -18,54 +19,34 @@ use Rattle.frames.specs.declared.Asked.TheVariants as asked
 use Rattle.frames.specs.Listing.{write_register_kind, write_pcm_ram_kind, set_version_kind, asked_of, clocked_as, clocked_by, frames_asked}
 use Rattle.frames.proofs.Counts.{zero-add, frames-more, frames-within, grown}
 use Rattle.log_lines.specs.declared.Line.{Line}
-use Rattle.log_lines.specs.declared.Line.TheVariants.{Write, WriteRam, Read, Peek, Clock, Version, Malformed, Unmapped}
-use Rattle.log_lines.specs.Lines.{parsed_line, bad_number, is_bad}
+use Rattle.log_lines.specs.declared.Line.TheVariants.{Write, WriteRam, Read, Peek, Clock, Version}
+use Rattle.log_lines.specs.declared.LineFault.{LineFault}
+use Rattle.log_lines.specs.declared.LineFault.TheVariants.{Malformed}
+use Rattle.log_lines.specs.Lines.{parsed_line, is_bad}
 use Rattle.log_lines.specs.Texts.{frame_lines, read_back_line}
 use Rattle.log_lines.proofs.Bytes.{FitLine, line-fits}
 use Rattle.log_player.specs.declared.ListedCall.{ListedCall}
-use Rattle.log_player.specs.declared.Next.TheVariants.{Line as Played, Rest, Bad}
+use Rattle.log_player.specs.declared.Stop.TheVariants.{Bad}
 use Rattle.log_player.specs.Worlds.{World}
 use Rattle.log_player.specs.Applied.{Effect, effect_of, after_line, printed}
-use Rattle.log_player.specs.Steps.{first_line, next_of}
+use Rattle.log_player.specs.Steps.{line_found, first_line, next_of}
 use Rattle.log_player.specs.Runs.{spot, is_line, run_from, refused_by}
-use Rattle.log_player.specs.Batches.{listed_call, line_of, lines_effect, most_printed, shown_as, shown_line, calls_shown, Short, Gathers, NoLine, PlaysLines, Batches}
+use Rattle.log_player.specs.Batches.{line_call, listed_call, line_of, lines_effect, most_printed, shown_as, shown_line, calls_shown, Short, Gathers, NoLine, PlaysLines, Batches}
 use Rattle.log_player.proofs.Stops.{first_short, next-line}
 use Rattle.log_player.proofs.Spots.{plays-line, run-next}
 use Rattle.log_player.proofs.Rooms.{room-is}
 
 -- ---- a line and its call
-pub line-back : (l : Line) → is_bad l ≡ false → line_of (listed_call l).kind (listed_call l).address (listed_call l).value ≡ l
+pub line-back : (l : Line) → line_of (line_call l).kind (line_call l).address (line_call l).value ≡ Ok l
 unfolding line_of asked_of
-line-back (Write a v) e = refl
-line-back (WriteRam a v) e = refl
-line-back (Read a) e = refl
-line-back (Peek a) e = refl
-line-back (Clock n) e = refl
-line-back (Version v) e = refl
-line-back Malformed e = never e
-line-back Unmapped e = never e
+line-back (Write a v) = refl
+line-back (WriteRam a v) = refl
+line-back (Read a) = refl
+line-back (Peek a) = refl
+line-back (Clock n) = refl
+line-back (Version v) = refl
 
-pub good-call : (l : Line) → ((listed_call l).kind ≡ 6 → ⊥) → is_bad l ≡ false
-good-call (Write a v) h = refl
-good-call (WriteRam a v) h = refl
-good-call (Read a) h = refl
-good-call (Peek a) h = refl
-good-call (Clock n) h = refl
-good-call (Version v) h = refl
-good-call Malformed h = absurd (h refl)
-good-call Unmapped h = absurd (h refl)
-
-pub bad-call : (l : Line) → (listed_call l).kind ≡ 6 → is_bad l ≡ true
-bad-call (Write a v) h = absurd (omega (arith, h))
-bad-call (WriteRam a v) h = absurd (omega (arith, h))
-bad-call (Read a) h = absurd (omega (arith, h))
-bad-call (Peek a) h = absurd (omega (arith, h))
-bad-call (Clock n) h = absurd (omega (arith, h))
-bad-call (Version v) h = absurd (omega (arith, h))
-bad-call Malformed h = refl
-bad-call Unmapped h = refl
-
-pub few-frames : (l : Line) → FitLine l → clocked_as (asked_of (listed_call l).kind) (listed_call l).address ≤ 1000
+pub few-frames : (l : Line) → FitLine (Ok l) → clocked_as (asked_of (line_call l).kind) (line_call l).address ≤ 1000
 unfolding asked_of
 few-frames (Write a v) f = omega arith
 few-frames (WriteRam a v) f = omega arith
@@ -73,12 +54,27 @@ few-frames (Read a) f = omega arith
 few-frames (Peek a) f = omega arith
 few-frames (Clock n) f = f
 few-frames (Version v) f = omega arith
-few-frames Malformed f = omega arith
-few-frames Unmapped f = omega arith
 
-pub call-few : (text : List ℕ) (line : Line) (made : ListedCall) {n : ℕ} → made ≡ listed_call line → line ≡ parsed_line text → n ≡ clocked_as (asked_of made.kind) made.address → n ≤ 1000
-call-few text line made e l m =
-    subst (λ (k : ℕ). k ≤ 1000) (sym (m ∙ ap (λ (x : ListedCall). clocked_as (asked_of x.kind) x.address) (e ∙ ap listed_call l))) (few-frames (parsed_line text) (line-fits text))
+-- the line that a listed call is made of, and why there is none
+pub record Made (text : List ℕ) (made : ListedCall) : Type 0 where
+  pub line : Line
+  pub is : Ok line ≡ parsed_line text
+  pub call : made ≡ line_call line
+
+pub call-made : (text : List ℕ) (parsed : Result Line LineFault) (answer : Result ListedCall LineFault) (made : ListedCall) → parsed ≡ parsed_line text → answer ≡ listed_call parsed → answer ≡ Ok made → Made text made
+call-made text (Ok line) answer made p e m = record { line = line; is = p; call = (let z : Ok made ≡ Ok (line_call line) = sym m ∙ e in cc) }
+call-made text (Err why) answer made p e m = absurd (let z : Ok made ≡ Err why = sym m ∙ e in let y : ◌≡◌ {A = ℕ} 0 1 = cc in omega arith)
+
+pub call-bad : (text : List ℕ) (parsed : Result Line LineFault) (answer : Result ListedCall LineFault) (why : LineFault) → parsed ≡ parsed_line text → answer ≡ listed_call parsed → answer ≡ Err why → Err why ≡ parsed_line text
+call-bad text (Ok line) answer why p e m = absurd (let z : Err why ≡ Ok (line_call line) = sym m ∙ e in let y : ◌≡◌ {A = ℕ} 0 1 = cc in omega arith)
+call-bad text (Err fault) answer why p e m = (let z : Err why ≡ Err fault = sym m ∙ e in let y : why ≡ fault = cc in ap (λ (f : LineFault). Err f) y) ∙ p
+
+pub call-none : (text : List ℕ) (parsed : Result Line LineFault) (answer : Result ListedCall LineFault) (why : LineFault) → parsed ≡ parsed_line text → answer ≡ listed_call parsed → answer ≡ Err why → is_bad (parsed_line text) ≡ true
+call-none text parsed answer why p e m = ap is_bad (sym (call-bad text parsed answer why p e m))
+
+pub call-few : (text : List ℕ) (made : ListedCall) {n : ℕ} → Made text made → n ≡ clocked_as (asked_of made.kind) made.address → n ≤ 1000
+call-few text made m e =
+    subst (λ (k : ℕ). k ≤ 1000) (sym (e ∙ ap (λ (x : ListedCall). clocked_as (asked_of x.kind) x.address) m.call)) (few-frames m.line (subst FitLine (sym m.is) (line-fits text)))
 
 -- ---- what a call shows
 pub shown_read : (kind address value : ℕ) (left right : List ℤ) → kind ≡ 2 → read_back_line 82 address value ≡ shown_line kind address value left right
@@ -145,7 +141,7 @@ module _ (kinds kinds' addresses addresses' values values' : List ℕ) where
       let k : n < suc n = omega arith in
       ap₂ next (lines_same n (fewer (suc n) n (omega arith) s) w) (λ i. line_of (s.kinds-same n k i) (s.addresses-same n k i) (s.values_same n k i))
     where
-      next : Effect → Line → Effect
+      next : Effect → Result Line LineFault → Effect
       next b l = record { after = (effect_of b.after l).after; text = b.text ++ (effect_of b.after l).text }
 
   pub gathers_same : (input : List ℕ) (from behind n budget : ℕ) → Equal n → Gathers input from behind n budget kinds addresses values → Gathers input from behind n budget kinds' addresses' values'
@@ -169,7 +165,7 @@ gathers-none input from budget kinds addresses values = record {
 }
 
 module _ (input : List ℕ) (from place stop n budget : ℕ) (kinds addresses values : List ℕ) where
-  abbrev line : Line
+  abbrev line : Result Line LineFault
   line = line_of (get_or kinds n 0) (get_or addresses n 0) (get_or values n 0)
 
   abbrev rest : List ℕ
@@ -177,17 +173,20 @@ module _ (input : List ℕ) (from place stop n budget : ℕ) (kinds addresses va
 
   pub gathers-more :
       Gathers input from place n budget kinds addresses values → stop ≡ place + length (first_line (drop place input)) → stop < length input →
-      parsed_line (first_line (drop place input)) ≡ line → is_bad line ≡ false → most_printed kinds addresses n ≤ budget → frames_asked kinds addresses 0 (n + 1) ≤ 1000 →
+      (one : Line) → Ok one ≡ parsed_line (first_line (drop place input)) → line ≡ Ok one → most_printed kinds addresses n ≤ budget → frames_asked kinds addresses 0 (n + 1) ≤ 1000 →
       Gathers input from (stop + 1) (n + 1) budget kinds addresses values
   unfolding lines_effect
-  gathers-more g s h l good fits few = record {
+  gathers-more g s h single p q fits few = record {
     within = λ j k. grown (λ (i : ℕ). most_printed kinds addresses i ≤ budget) 0 n (λ i z q. g.within i q) fits j (omega arith) k;
     few = few;
     left = λ room w number text k r. g.left room w number text (omega arith) (λ j q. r j (omega arith)) ∙ one room w number text k (r n (omega arith));
   }
     where
-      next : next_of rest place ≡ Played (stop + 1)
-      next = next-line input place stop s line (omega arith) (λ e. absurd (omega arith)) (sym l) good
+      next : next_of rest place ≡ Ok (Some (stop + 1))
+      next = next-line input place stop s single (omega arith) (λ e. absurd (omega arith)) p
+
+      l : parsed_line (first_line (drop place input)) ≡ line
+      l = sym p ∙ sym q
 
       there : place + length (first_line rest) + 1 ≡ stop + 1
       there = omega arith
@@ -202,7 +201,7 @@ module _ (input : List ℕ) (from place stop n budget : ℕ) (kinds addresses va
           let at = spot b.after (number + n) place t in
           let m : suc (number + n) ≡ number + (n + 1) = omega arith in
           run-next room input at (plays-line room input at (room-is room (length t) (number + n) (omega arith) (long text b.text r)) (ap is_line next))
-          ∙ ap (λ (x : Line). run_from room input (spot (after_line b.after x) (suc (number + n)) (place + length (first_line rest) + 1) (t ++ printed b.after x))) l
+          ∙ ap (λ (x : Result Line LineFault). run_from room input (spot (after_line b.after x) (suc (number + n)) (place + length (first_line rest) + 1) (t ++ printed b.after x))) l
           ∙ (λ i. run_from room input (spot (after_line b.after line) (m i) (there i) (append_assoc text b.text (printed b.after line) i)))
           ∙ ap (λ (j : ℕ). run_from room input (spot (lines_effect kinds addresses values j w).after (number + (n + 1)) (stop + 1) (text ++ (lines_effect kinds addresses values j w).text))) (sym (add-one n))
         where
@@ -214,7 +213,7 @@ module _ (input : List ℕ) (place stop : ℕ) (s : stop ≡ place + length (fir
   abbrev left : List ℕ
   left = drop place input
 
-  none_open : (a b m : Bool) → a ≡ true → is_line (cond a (cond b Rest (Bad (bad_number Malformed))) (cond m (Bad (bad_number (parsed_line (first_line left)))) (Played (place + length (first_line left) + 1)))) ≡ false
+  none_open : (a b : Bool) (p : Result Line LineFault) → a ≡ true → is_line (cond a (cond b (Ok None) (Err (Bad Malformed))) (line_found (place + length (first_line left) + 1) p)) ≡ false
   none_open true true m e = refl
   none_open true false m e = refl
   none_open false b m e = never (sym e)
@@ -222,18 +221,18 @@ module _ (input : List ℕ) (place stop : ℕ) (s : stop ≡ place + length (fir
   pub open-line : length input ≤ stop → NoLine input place
   unfolding next_of
   open-line h =
-      none_open (eqb (length (first_line left)) (length left)) (leb (length left) 16) (is_bad (parsed_line (first_line left)))
+      none_open (eqb (length (first_line left)) (length left)) (leb (length left) 16) (parsed_line (first_line left))
       (eq-eqb (length (first_line left)) (length left) (omega (arith, s, h, length-drop place input, first_short left)))
 
-  none-bad : (a b m : Bool) → m ≡ true → is_line (cond a (cond b Rest (Bad (bad_number Malformed))) (cond m (Bad (bad_number (parsed_line (first_line left)))) (Played (place + length (first_line left) + 1)))) ≡ false
+  none-bad : (a b : Bool) (p : Result Line LineFault) → is_bad p ≡ true → is_line (cond a (cond b (Ok None) (Err (Bad Malformed))) (line_found (place + length (first_line left) + 1) p)) ≡ false
   none-bad true true m e = refl
   none-bad true false m e = refl
-  none-bad false b true e = refl
-  none-bad false b false e = never (sym e)
+  none-bad false b (Err why) e = refl
+  none-bad false b (Ok l) e = never (sym e)
 
   pub bad-line : is_bad (parsed_line (first_line (drop place input))) ≡ true → NoLine input place
   unfolding next_of
-  bad-line h = none-bad (eqb (length (first_line left)) (length left)) (leb (length left) 16) (is_bad (parsed_line (first_line left))) h
+  bad-line h = none-bad (eqb (length (first_line left)) (length left)) (leb (length left) 16) (parsed_line (first_line left)) h
 
 -- ---- where `gather` stands
 pub record Gathering (input : List ℕ) (from most budget : ℕ) (kinds addresses values : List ℕ) (count frames place : ℕ) : Type 0 where
@@ -275,16 +274,16 @@ module _ (input : List ℕ) (from most budget : ℕ) (kinds addresses values : L
 
       pub gathering-next :
           count < most → count < length kinds → count < length addresses → count < length values → stop ≡ place + length (first_line (drop place input)) → stop < length input →
-          line ≡ parsed_line (first_line (drop place input)) → (k ≡ (listed_call line).kind) × (a ≡ (listed_call line).address) × (v ≡ (listed_call line).value) → (k ≡ 6 → ⊥) →
+          Ok line ≡ parsed_line (first_line (drop place input)) → (k ≡ (line_call line).kind) × (a ≡ (line_call line).address) × (v ≡ (line_call line).value) →
           more ≡ frames + clocked_as (asked_of k) a → more ≤ 1000 → 17 * count + 16 * frames ≤ budget →
           Gathering input from most budget (set kinds count k) (set addresses count a) (set values count v) (count + 1) more (stop + 1)
       unfolding most_printed
-      gathering-next h lk la lv s inside l e n m few fits = record {
+      gathering-next h lk la lv s inside l e m few fits = record {
         some = omega arith;
         is = m ∙ sym frames-now;
         gathers =
             gathers-more input from place stop count budget ks ads vs (gathers_same kinds ks addresses ads values vs input from place count budget same g.gathers) s inside
-            (sym l ∙ sym (line-is ∙ back)) (ap is_bad (line-is ∙ back) ∙ good)
+            line l (line-is ∙ back)
             (subst (λ (x : ℕ). 17 * count + 16 * x ≤ budget) (g.is ∙ frames-same kinds ks addresses ads values vs count same) fits)
             (subst (λ (x : ℕ). x ≤ 1000) (m ∙ sym frames-now) few);
         first = λ z. absurd (omega arith);
@@ -296,11 +295,8 @@ module _ (input : List ℕ) (from most budget : ℕ) (kinds addresses values : L
           same : Same count kinds ks addresses ads values vs
           same = record { kinds-same = other kinds k; addresses-same = other addresses a; values_same = other values v }
 
-          good : is_bad line ≡ false
-          good = good-call line (λ z. n (e.0 ∙ z))
-
-          back : line_of k a v ≡ line
-          back = (λ i. line_of (e.0 i) (e.1 i) (e.2 i)) ∙ line-back line good
+          back : line_of k a v ≡ Ok line
+          back = (λ i. line_of (e.0 i) (e.1 i) (e.2 i)) ∙ line-back line
 
           line-is : line_of (get_or ks count 0) (get_or ads count 0) (get_or vs count 0) ≡ line_of k a v
           line-is = λ i. line_of (get_or-set_same kinds count k 0 lk i) (get_or-set_same addresses count a 0 la i) (get_or-set_same values count v 0 lv i)

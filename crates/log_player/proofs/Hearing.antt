@@ -1,5 +1,6 @@
 -- A list of calls is its lines, one after the other: the chip, the RAM and the queue buffer are theirs, and so are the bytes that it has read and the sides that the stems of both cores add up to.
 -- Assumes nothing.
+use Rattle.std.specs.Prelude.{Ok, is_ok}
 use mathlib.Core.Path.{◌≡◌, refl, sym, ap, ◌∙◌}
 use mathlib.Core.Bool.{Bool, true, false, cond}
 use mathlib.Core.List.{List}
@@ -23,11 +24,10 @@ use Rattle.frames.specs.declared.Asked.TheVariants as asked
 use Rattle.frames.specs.Listing.{read_register_kind, clocked_as}
 use Rattle.frames.specs.Turning.{frames}
 use Rattle.frames.proofs.Framing.{frames-long}
-use Rattle.s3w2.specs.declared.Answer.{Answer}
-use Rattle.s3w2.specs.declared.Answer.TheVariants.{Ended}
+use Rattle.s3w2.specs.declared.Returned.TheVariants.{Ended}
 use Rattle.s3w2.specs.declared.Called.{Called}
 use Rattle.s3w2.specs.declared.Chip.{Chip}
-use Rattle.s3w2.specs.Answers.{is_done, unless, answered, byte_answered}
+use Rattle.s3w2.specs.Answers.{Answer, Checked, done_unless, unless, answered, byte_answered}
 use Rattle.s3w2.specs.Refusals.{refusal, accepts_chip, sound_refusal, clock_refusal}
 use Rattle.s3w2.specs.Chips.{core_at, core_queues}
 use Rattle.s3w2.specs.Registers.{read_register_called, peek_register_answer}
@@ -57,7 +57,7 @@ module _ (chip : Chip) (ram : List ℕ) (queues : List ℤ) (n : ℕ) (few : n �
   z = silent n
 
   abbrev done : Bool
-  done = is_done (sound_refusal chip (length ram) (length queues))
+  done = is_ok (sound_refusal chip (length ram) (length queues))
 
   as_many : length z ≡ n
   as_many = length-replicate (min n 1000) (pos 0) ∙ omega arith
@@ -94,10 +94,10 @@ module _ (chip : Chip) (ram : List ℕ) (queues : List ℤ) (n : ℕ) (few : n �
   unfolding clock_called mixed_answered
   clock-chip =
       let no = sound_refusal chip (length ram) (length queues) in
-      let given = Ended (framed_ended chip ram queues n) in
-      let heard = Ended (framed_ended chip ram queues (served z z)) in
-      ap (λ (r : Answer). (unless r (answered chip r) (answered (framed chip ram queues n) given)).chip) same-refusal
-      ∙ either-chip done (answered (framed chip ram queues n) given) (answered (framed chip ram queues (served z z)) heard) no no (ap (framed chip ram queues) (sym all-served))
+      let given : Answer = Ok (Ended (framed_ended chip ram queues n)) in
+      let heard : Answer = Ok (Ended (framed_ended chip ram queues (served z z))) in
+      ap (λ (r : Checked). (unless r (answered chip (done_unless r)) (answered (framed chip ram queues n) given)).chip) same-refusal
+      ∙ either-chip done (answered (framed chip ram queues n) given) (answered (framed chip ram queues (served z z)) heard) (done_unless no) (done_unless no) (ap (framed chip ram queues) (sym all-served))
 
   -- the left side (hand 0), or the right one (hand 1)
   abbrev pub heard_side : ℕ → List ℤ
@@ -252,7 +252,7 @@ module _ (kinds addresses : List ℕ) where
     }
 
     look-line : (is_read : Bool) (x : Called) → x ≡ cond is_read (read_register_called p.chip 0 a) (answered p.chip (peek_register_answer p.chip 0 a)) → byte ≡ byte_answered x.answer
-        → effect_of (world_of p l r) (cond is_read (Read a) (Peek a)) ≡ record { after = world_of (shown_by p i x) l r; text = read_back_line (cond is_read 82 80) a byte }
+        → effect_of (world_of p l r) (Ok (cond is_read (Read a) (Peek a))) ≡ record { after = world_of (shown_by p i x) l r; text = read_back_line (cond is_read 82 80) a byte }
     unfolding effect_of
     look-line true x e b =
         (λ j. record { after = world_of (shown_by p i (sym e j)) l r; text = read_back_line 82 a (byte_answered (sym e j).answer) })
@@ -262,7 +262,7 @@ module _ (kinds addresses : List ℕ) where
         ∙ ap (λ (k : ℕ). record { after = world_of (shown_by p i x) l r; text = read_back_line 80 a k }) (sym b)
 
     clock-line : Roomy a p → xl ≡ left_side p.chip p.ram p.queues (silent a) (silent a) → xr ≡ right_side p.chip p.ram p.queues (silent a) (silent a)
-        → effect_of (world_of p l r) (Clock a) ≡ record { after = world_of (clock_played p a) (peak_of l xl a) (peak_of r xr a); text = frame_lines xl xr (min (length xl) (length xr)) }
+        → effect_of (world_of p l r) (Ok (Clock a)) ≡ record { after = world_of (clock_played p a) (peak_of l xl a) (peak_of r xr a); text = frame_lines xl xr (min (length xl) (length xr)) }
     unfolding effect_of clocked_player clocked_text
     clock-line q el er =
         let c = sym (clock-chip p.chip p.ram p.queues a q.few) in
@@ -279,8 +279,8 @@ module _ (kinds addresses : List ℕ) where
 
     pub one_line : (t : Asked) → Roomy (clocked_as t a) p → get_or p.values i 0 ≡ v → Own t i p xl xr byte → effect_of (world_of p l r) (line_as t (eqb (get_or kinds i 0) read_register_kind) a v) ≡ heard t (eqb (get_or kinds i 0) read_register_kind)
     unfolding effect_of peak_of
-    one_line asked.WriteRegister q e o = ap (λ (k : ℕ). effect_of (world_of p l r) (Write a k)) (sym e)
-    one_line asked.WritePcmRam q e o = ap (λ (k : ℕ). effect_of (world_of p l r) (WriteRam a k)) (sym e)
+    one_line asked.WriteRegister q e o = ap (λ (k : ℕ). effect_of (world_of p l r) (Ok (Write a k))) (sym e)
+    one_line asked.WritePcmRam q e o = ap (λ (k : ℕ). effect_of (world_of p l r) (Ok (WriteRam a k))) (sym e)
     one_line asked.Look q e o = look-line (eqb (get_or kinds i 0) read_register_kind) (looked_at i p) refl (o.shows refl)
     one_line asked.Clock q e o = clock-line q (o.lefts refl) (o.rights refl)
     one_line asked.SetVersion q e o = refl

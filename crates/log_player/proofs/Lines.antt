@@ -1,4 +1,5 @@
 -- The lines of a list, as the list plays them. Assumes nothing.
+use Rattle.std.specs.Prelude.{Result, Ok, is_ok}
 use mathlib.Core.Path.{◌≡◌, refl, sym, ap, ap₂, ◌∙◌, subst}
 use mathlib.Core.Bool.{Bool, true, false, cond}
 use mathlib.Core.List.{List, ◌∷◌, ◌++◌}
@@ -21,14 +22,14 @@ use Rattle.frames.specs.declared.Asked.{Asked}
 use Rattle.frames.specs.declared.Asked.TheVariants as asked
 use Rattle.frames.specs.Listing.{asked_of, clocked_as, frames_asked, call_count}
 use Rattle.frames.proofs.Counts.{zero-add, frames-within}
-use Rattle.s3w2.specs.declared.Answer.{Answer}
-use Rattle.s3w2.specs.declared.Answer.TheVariants.{Done}
+use Rattle.s3w2.specs.declared.Returned.TheVariants.{Done}
 use Rattle.s3w2.specs.declared.Chip.{Chip}
-use Rattle.s3w2.specs.Answers.{is_done, number_of, answered, byte_answered}
+use Rattle.s3w2.specs.Answers.{Checked, done_unless, number_of, answered, byte_answered}
 use Rattle.s3w2.specs.Refusals.{accepts_chip, refusal}
 use Rattle.chip_lists.specs.Plays.{Playing, playing, call_played, calls_played, play_refusal, all_played, play_called, play_left}
 use Rattle.s3w2.proofs.Refused.{nothing-amiss}
 use Rattle.log_lines.specs.declared.Line.{Line}
+use Rattle.log_lines.specs.declared.LineFault.{LineFault}
 use Rattle.log_lines.specs.Texts.{peak_of}
 use Rattle.log_player.specs.Worlds.{World, world}
 use Rattle.log_player.specs.Applied.{left_side, right_side, silent, Effect, effect_of}
@@ -230,7 +231,7 @@ module _ (kinds addresses values : List ℕ) (w : World) (stems others : List �
     text = calls_shown kinds addresses bytes L R n;
   }
 
-  abbrev line : ℕ → Line
+  abbrev line : ℕ → Result Line LineFault
   line n = line_of (get_or kinds n 0) (a n) (get_or values n 0)
 
   abbrev next : ℕ → Effect → Effect
@@ -309,7 +310,7 @@ module _ (w : World) where
   pub of-accepted : Accepted w → refused_by w ≡ 0
   unfolding refused_by
   of-accepted f =
-      ap (λ (r : Answer). get_or (number_of r) 0 0)
+      ap (λ (r : Checked). get_or (number_of r) 0 0)
       (sym (nothing-amiss (is_ram_length (length w.ram)) (eqb (length w.queues) chip_queues) (accepts_chip w.player.chip (length w.ram)) true f.allowed (eq-eqb (length w.queues) chip_queues f.lent) f.accepted refl))
 
 -- ---- a list played over silent buffers
@@ -343,13 +344,13 @@ module _ (kinds addresses values : List ℕ) (w : World) (stems others left righ
   counts : call_count kinds addresses values ≡ N
   counts = omega (arith, z.many.0, z.many.1)
 
-  pub goes : is_done (play_refusal kinds addresses start) ≡ true
+  pub goes : is_ok (play_refusal kinds addresses start) ≡ true
   goes =
       let f = accepted-of w ok in
       let n : length stems ≡ stems_per_frame * frames_asked kinds addresses 0 (call_count kinds addresses values) = stems-many ∙ ap (λ (k : ℕ). stems_per_frame * frames_asked kinds addresses 0 k) (sym counts) in
       let m : length others ≡ length stems = others-many ∙ sym stems-many in
       let enough = eq-eqb (length stems) (stems_per_frame * frames_asked kinds addresses 0 (call_count kinds addresses values)) n in
-      ap is_done (sym (nothing-amiss _ _ _ _ f.allowed (eq-eqb (length w.queues) chip_queues f.lent) f.accepted (together _ _ enough (eq-eqb (length others) (length stems) m))))
+      ap is_ok (sym (nothing-amiss _ _ _ _ f.allowed (eq-eqb (length w.queues) chip_queues f.lent) f.accepted (together _ _ enough (eq-eqb (length others) (length stems) m))))
 
   abbrev last : Playing
   last = calls_played kinds addresses N start
@@ -361,7 +362,7 @@ module _ (kinds addresses values : List ℕ) (w : World) (stems others left righ
   chip-is : (play_called kinds addresses start).chip ≡ last.chip
   unfolding play_called
   chip-is =
-      ap (λ (b : Bool). (cond b (answered (all_played kinds addresses start).chip Done) (answered w.player.chip (play_refusal kinds addresses start))).chip) goes
+      ap (λ (b : Bool). (cond b (answered (all_played kinds addresses start).chip (Ok Done)) (answered w.player.chip (done_unless (play_refusal kinds addresses start)))).chip) goes
       ∙ ap (λ (n : ℕ). (calls_played kinds addresses n start).chip) counts
 
   abbrev heard_on : ℕ → List ℤ

@@ -1,5 +1,6 @@
 -- Frames ahead of the clamp. Clamped, what `clock_mixed_into_i32` adds over zeros is what `clock_mixed` gives, so the `F` lines are its
 -- values as they stand; and no value passes 262,144, so no peak does. Assumes nothing beyond the ranges that the types give.
+use Rattle.std.specs.Prelude.{is_ok}
 use mathlib.Core.Path.{◌≡◌, refl, sym, ap, ap₂, ◌∙◌, subst}
 use mathlib.Core.Bool.{Bool, true, false, cond}
 use mathlib.Core.List.{List, [], ◌∷◌, ◌++◌}
@@ -21,7 +22,6 @@ use Rattle.frames.specs.Kept.{EachByte}
 use Rattle.sides.specs.Sides.{side_of, added_to, saturating, wrapping}
 use Rattle.sides.proofs.Added.{added-length}
 use Rattle.s3w2.specs.declared.Chip.{Chip}
-use Rattle.s3w2.specs.Answers.{is_done}
 use Rattle.s3w2.specs.Refusals.{refusal, sound_refusal}
 use Rattle.chip_sound.specs.Sound.{core_frames}
 use Rattle.chip_sound.specs.Mixing.{cleared_to, served, mixed_side, mixed_left, mixed_right, clock_mixed_left, clock_mixed_right}
@@ -99,7 +99,7 @@ module _ (chip : Chip) (ram : List ℕ) (queues : List ℤ) (fits : FitChip chip
       ap (λ (k : ℕ). sets z 0 (replicate k (pos 0))) k ∙ sets-all z z refl
 
   -- a call that is not turned away has an accepted chip
-  accepted : (a b c : Bool) → is_done (refusal a b c true) ≡ true → c ≡ true
+  accepted : (a b c : Bool) → is_ok (refusal a b c true) ≡ true → c ≡ true
   unfolding refusal
   accepted true true true e = refl
   accepted true true false e = never (sym e)
@@ -107,7 +107,7 @@ module _ (chip : Chip) (ram : List ℕ) (queues : List ℤ) (fits : FitChip chip
   accepted false b c e = never (sym e)
 
   abbrev lent : Bool
-  lent = is_done (sound_refusal chip (length ram) (length queues))
+  lent = is_ok (sound_refusal chip (length ram) (length queues))
 
   abbrev after : ℕ → (ℤ → ℤ → ℤ) → List ℤ
   after hand plus = mixed_side plus chip ram queues z z hand z

@@ -1,4 +1,5 @@
 -- However an input is read in parts, the runs and the closing line print its log, where no run is refused. Assumes that much of some worlds.
+use Rattle.std.specs.Prelude.{Result, Ok, Some, None, Err, is_ok}
 use mathlib.Core.Path.{◌≡◌, refl, sym, ap, ◌∙◌, subst}
 use mathlib.Core.Bool.{Bool, true, false, cond}
 use mathlib.Core.List.{List, [], ◌∷◌, ◌++◌, append_assoc, append-nil}
@@ -8,58 +9,56 @@ use lib.Dec.{eqb, leb}
 use lib.IntN.{pos}
 use lib.ListN.{length, drop, replicate, length-append, length-drop}
 use lib.Seq.{drop-drop}
-use borrow.Author.Tests.{eq-eqb}
 use Rattle.num.proofs.Choice.{never, cond-by}
 use Rattle.cores.specs.Sizes.{chip_queues}
 use Rattle.tone.specs.Pcm.{is_ram_length}
-use Rattle.s3w2.specs.Answers.{is_done}
 use Rattle.s3w2.specs.Refusals.{refusal}
 use Rattle.s3w2.specs.Fresh.{made_refusal, made_ram}
-use Rattle.log_lines.specs.declared.Line.TheVariants.{Malformed}
-use Rattle.log_lines.specs.Lines.{parsed_line, bad_number, is_bad}
-use Rattle.log_player.specs.declared.Next.{Next}
-use Rattle.log_player.specs.declared.Next.TheVariants.{Line, Rest, Bad, Refused}
+use Rattle.log_lines.specs.declared.Line as lines
+use Rattle.log_lines.specs.declared.LineFault.{LineFault}
+use Rattle.log_lines.specs.declared.LineFault.TheVariants.{Malformed}
+use Rattle.log_lines.specs.Lines.{parsed_line, is_bad}
+use Rattle.s3w2.specs.declared.Refusal.{Refusal}
+use Rattle.log_player.specs.declared.Stop.TheVariants.{Bad, Refused}
 use Rattle.log_player.specs.Worlds.{World, world, fresh_player, fresh_world}
 use Rattle.log_player.specs.Applied.{after_line, printed}
 use Rattle.log_player.specs.Logs.{rest_text, log_text}
-use Rattle.log_player.specs.Steps.{first_line, next_of}
-use Rattle.log_player.specs.Runs.{has_room, Spot, spot, spot_behind, is_line, found_by, plays_line, lines_played, Run, stop_text, run_from, refused_by, log_run}
+use Rattle.log_player.specs.Steps.{Next, line_found, first_line, next_of}
+use Rattle.log_player.specs.Runs.{has_room, Spot, spot, spot_behind, is_line, found_by, plays_line, lines_played, Run, stop_text, run_from, refused_by}
 use Rattle.log_player.specs.Parts.{followed, runs_over, unless_bad, parts_printed, joined}
 use Rattle.log_player.proofs.Stops.{next_past}
 use Rattle.log_player.proofs.Whole.{step_line, step-bad, step_end}
+use Rattle.log_player.proofs.Running.{goes}
 use Rattle.log_player.proofs.Rooms.{room-is}
 use Rattle.log_player.proofs.Spots.{line-within, good-line, line_at, played-line, plays-line, found-there, run-next, run-stops}
 
 -- what follows a run; nothing behind a bad line
 abbrev left_text : World → ℕ → Next → List ℕ → List ℕ
-left_text w number (Line place) rest = rest_text w number [] rest
-left_text w number Rest rest = rest_text w number [] rest
-left_text w number (Bad why) rest = []
-left_text w number (Refused why) rest = []
+left_text w number (Ok (Some place)) rest = rest_text w number [] rest
+left_text w number (Ok None) rest = rest_text w number [] rest
+left_text w number (Err (Bad why)) rest = []
+left_text w number (Err (Refused why)) rest = []
 
 -- ---- what an input holds, wherever it begins
-rest-anywhere : (rest : List ℕ) (at other : ℕ) → next_of rest at ≡ Rest → next_of rest other ≡ Rest
+rest-anywhere : (rest : List ℕ) (at other : ℕ) → next_of rest at ≡ Ok None → next_of rest other ≡ Ok None
 unfolding next_of
-rest-anywhere rest at other e = go (eqb (length (first_line rest)) (length rest)) (cond (leb (length rest) 16) Rest (Bad (bad_number Malformed))) (is_bad (parsed_line (first_line rest))) e
+rest-anywhere rest at other e = go (eqb (length (first_line rest)) (length rest)) (cond (leb (length rest) 16) (Ok None) (Err (Bad Malformed))) (parsed_line (first_line rest)) e
   where
-    bad : Next
-    bad = Bad (bad_number (parsed_line (first_line rest)))
-
-    go : (b : Bool) (x : Next) (m : Bool) → cond b x (cond m bad (Line (at + length (first_line rest) + 1))) ≡ Rest → cond b x (cond m bad (Line (other + length (first_line rest) + 1))) ≡ Rest
-    go true x m h = h
-    go false x true h = h
-    go false x false h = absurd (let z : ◌≡◌ {A = ℕ} 0 1 = cc in omega arith)
+    go : (b : Bool) (x : Next) (p : Result lines.Line LineFault) → cond b x (line_found (at + length (first_line rest) + 1) p) ≡ Ok None → cond b x (line_found (other + length (first_line rest) + 1) p) ≡ Ok None
+    go true x p h = h
+    go false x (Err why) h = h
+    go false x (Ok line) h = absurd (let z : ◌≡◌ {A = ℕ} 0 1 = cc in omega arith)
 
 -- no line is a refusal
-no-refusal : (rest : List ℕ) (at why : ℕ) → next_of rest at ≡ Refused why → ⊥
+no-refusal : (rest : List ℕ) (at : ℕ) (why : Refusal) → next_of rest at ≡ Err (Refused why) → ⊥
 unfolding next_of
-no-refusal rest at why e = go (eqb (length (first_line rest)) (length rest)) (leb (length rest) 16) (is_bad (parsed_line (first_line rest))) e
+no-refusal rest at why e = go (eqb (length (first_line rest)) (length rest)) (leb (length rest) 16) (parsed_line (first_line rest)) e
   where
-    go : (a b m : Bool) → cond a (cond b Rest (Bad (bad_number Malformed))) (cond m (Bad (bad_number (parsed_line (first_line rest)))) (Line (at + length (first_line rest) + 1))) ≡ Refused why → ⊥
-    go true true m h = let z : ◌≡◌ {A = ℕ} 0 1 = cc in omega arith
-    go true false m h = let z : ◌≡◌ {A = ℕ} 0 1 = cc in omega arith
-    go false b true h = let z : ◌≡◌ {A = ℕ} 0 1 = cc in omega arith
-    go false b false h = let z : ◌≡◌ {A = ℕ} 0 1 = cc in omega arith
+    go : (a b : Bool) (p : Result lines.Line LineFault) → cond a (cond b (Ok None) (Err (Bad Malformed))) (line_found (at + length (first_line rest) + 1) p) ≡ Err (Refused why) → ⊥
+    go true true p h = let z : ◌≡◌ {A = ℕ} 0 1 = cc in omega arith
+    go true false p h = let z : ◌≡◌ {A = ℕ} 0 1 = cc in omega arith
+    go false b (Err fault) h = let z : ◌≡◌ {A = ℕ} 0 1 = cc in omega arith
+    go false b (Ok line) h = let z : ◌≡◌ {A = ℕ} 0 1 = cc in omega arith
 
 -- ---- places and numbers only grow, by at most a line for each byte
 pub record Forward (input : List ℕ) (from number behind line : ℕ) : Type 0 where
@@ -116,7 +115,7 @@ module _ (room : ℕ) (input : List ℕ) where
           let k : s.from + suc (length (first_line rest)) ≡ s.from + length (first_line rest) + 1 = omega arith in
           drop-drop (suc (length (first_line rest))) s.from input ∙ ap (λ (k : ℕ). drop k input) k
 
-      go : (place : ℕ) → next_of rest s.from ≡ Line place → goal
+      go : (place : ℕ) → next_of rest s.from ≡ Ok (Some place) → goal
       go place h =
           ap (λ (t : List ℕ). s.text ++ t) (step_line s.world s.number rest s.from place more h ∙ ap (λ (l : List ℕ). out ++ rest_text after (suc s.number) [] (l ++ more)) there)
           ∙ sym (append_assoc s.text out (rest_text after (suc s.number) [] (drop (s.from + length (first_line rest) + 1) input ++ more)))
@@ -134,18 +133,18 @@ module _ (room : ℕ) (input : List ℕ) where
   unfolding found_by
   found-is s next k e = go (has_room room (length s.text) s.number) e
     where
-      go : (b : Bool) → cond b (next_of (drop s.from input) s.from) (Line s.from) ≡ next → next_of (drop s.from input) s.from ≡ next
+      go : (b : Bool) → cond b (next_of (drop s.from input) s.from) (Ok (Some s.from)) ≡ next → next_of (drop s.from input) s.from ≡ next
       go true h = h
       go false h = never (ap is_line h ∙ k)
 
   stop-text : (s : Spot) (next : Next) → found_by room input s ≡ next → (more : List ℕ) → s.text ++ rest_text s.world s.number [] (drop s.from input ++ more)
       ≡ (s.text ++ stop_text s.number next) ++ left_text s.world s.number next (drop s.from input ++ more)
-  stop-text s (Line place) e more = ap (λ (t : List ℕ). t ++ rest_text s.world s.number [] (drop s.from input ++ more)) (sym (append-nil s.text))
-  stop-text s Rest e more = ap (λ (t : List ℕ). t ++ rest_text s.world s.number [] (drop s.from input ++ more)) (sym (append-nil s.text))
-  stop-text s (Bad why) e more =
-      ap (λ (t : List ℕ). s.text ++ t) (step-bad s.world s.number (drop s.from input) s.from why more (found-is s (Bad why) refl e))
-      ∙ sym (append-nil (s.text ++ stop_text s.number (Bad why)))
-  stop-text s (Refused why) e more = absurd (no-refusal (drop s.from input) s.from why (found-is s (Refused why) refl e))
+  stop-text s (Ok (Some place)) e more = ap (λ (t : List ℕ). t ++ rest_text s.world s.number [] (drop s.from input ++ more)) (sym (append-nil s.text))
+  stop-text s (Ok None) e more = ap (λ (t : List ℕ). t ++ rest_text s.world s.number [] (drop s.from input ++ more)) (sym (append-nil s.text))
+  stop-text s (Err (Bad why)) e more =
+      ap (λ (t : List ℕ). s.text ++ t) (step-bad s.world s.number (drop s.from input) s.from why more (found-is s (Err (Bad why)) refl e))
+      ∙ sym (append-nil (s.text ++ stop_text s.number (Err (Bad why))))
+  stop-text s (Err (Refused why)) e more = absurd (no-refusal (drop s.from input) s.from why (found-is s (Err (Refused why)) refl e))
 
   pub run-text : (s : Spot) (more : List ℕ) → s.text ++ rest_text s.world s.number [] (drop s.from input ++ more)
       ≡ (run_from room input s).text ++ left_text (run_from room input s).world (run_from room input s).number (run_from room input s).next (drop (run_from room input s).from input ++ more)
@@ -154,9 +153,9 @@ module _ (room : ℕ) (input : List ℕ) where
       let last = lines_played room input (length input) s in
       lines-text (length input) s more ∙ stop-text last (found_by room input last) refl more
 
-  pub run-rest : (s : Spot) → (run_from room input s).next ≡ Rest → next_of (drop (run_from room input s).from input) (run_from room input s).from ≡ Rest
+  pub run-rest : (s : Spot) → (run_from room input s).next ≡ Ok None → next_of (drop (run_from room input s).from input) (run_from room input s).from ≡ Ok None
   unfolding run_from
-  run-rest s e = found-is (lines_played room input (length input) s) Rest refl e
+  run-rest s e = found-is (lines_played room input (length input) s) (Ok None) refl e
 
   -- a run that has room at its beginning and none at its end has played a line
   pub run_on : (s : Spot) → has_room room (length s.text) s.number ≡ true → is_line (run_from room input s).next ≡ true → s.from < (run_from room input s).from
@@ -186,7 +185,7 @@ module _ (room : ℕ) (input : List ℕ) where
   -- ---- runs one after the other
   pub record Ends (w : World) (number from : ℕ) (r : Run) : Type 0 where
     pub stops : is_line r.next ≡ false
-    pub rest : r.next ≡ Rest → next_of (drop r.from input) r.from ≡ Rest
+    pub rest : r.next ≡ Ok None → next_of (drop r.from input) r.from ≡ Ok None
     pub forward : Forward input from number r.from r.number
     pub left : (more : List ℕ) → rest_text w number [] (drop from input ++ more) ≡ r.text ++ left_text r.world r.number r.next (drop r.from input ++ more)
 
@@ -195,11 +194,6 @@ module _ (room : ℕ) (input : List ℕ) where
 
   ends-one : (w : World) (number from : ℕ) → is_line (one w number from).next ≡ false → Ends w number from (one w number from)
   ends-one w number from k = record { stops = k; rest = run-rest (spot w number from []); forward = run-forward (spot w number from []); left = run-text (spot w number from []) }
-
-  -- a run that is not refused
-  goes : (s : Spot) → refused_by s.world ≡ 0 → log_run room input s ≡ run_from room input s
-  unfolding log_run
-  goes s e = rw (eq-eqb (refused_by s.world) 0 e)
 
   module _ (large : 16384 ≤ room) where
     module _ (w : World) (number from : ℕ) (inside : from ≤ length input) (few : number + length input < 18446744073709551615 + from) where
@@ -221,10 +215,10 @@ module _ (room : ℕ) (input : List ℕ) where
 
       -- another run behind it
       ends_more : (more : Run) (next : Next) → r.next ≡ next → (is_line r.next ≡ true → Ends r.world r.number r.from more) → Ends w number from (followed next r more)
-      ends_more more Rest e ih = ends-one w number from (ap is_line e)
-      ends_more more (Bad why) e ih = ends-one w number from (ap is_line e)
-      ends_more more (Refused why) e ih = ends-one w number from (ap is_line e)
-      ends_more more (Line place) e ih =
+      ends_more more (Ok None) e ih = ends-one w number from (ap is_line e)
+      ends_more more (Err (Bad why)) e ih = ends-one w number from (ap is_line e)
+      ends_more more (Err (Refused why)) e ih = ends-one w number from (ap is_line e)
+      ends_more more (Ok (Some place)) e ih =
           let k = ih (ap is_line e) in
           record {
             stops = k.stops;
@@ -250,26 +244,26 @@ module _ (room : ℕ) (input : List ℕ) where
           here = run-kept P next-kept (spot w number from []) h
 
           go : (next : Next) → (one w number from).next ≡ next → P (followed next (one w number from) more).world
-          go Rest e = here
-          go (Bad why) e = here
-          go (Refused why) e = here
-          go (Line place) e = (ih (ap is_line e)).kept
+          go (Ok None) e = here
+          go (Err (Bad why)) e = here
+          go (Err (Refused why)) e = here
+          go (Ok (Some place)) e = (ih (ap is_line e)).kept
 
       pub runs-end : (n : ℕ) (w : World) (number from : ℕ) → P w → length input ≤ from + n → from ≤ length input → number + length input < 18446744073709551615 + from → Kept w number from (runs_over room input n w number from)
       unfolding runs_over
       runs-end zero w number from h enough inside few =
-          subst (Kept w number from) (sym (goes (spot w number from []) (accepted w h)))
+          subst (Kept w number from) (sym (goes room input (spot w number from []) (accepted w h)))
           (record { ends = last w number from inside few (omega arith); kept = run-kept P next-kept (spot w number from []) h })
       runs-end (suc n) w number from h enough inside few =
           let x = one w number from in
           let f = forward w number from inside few in
-          subst (λ (y : Run). Kept w number from (followed y.next y (runs_over room input n y.world y.number y.from))) (sym (goes (spot w number from []) (accepted w h)))
+          subst (λ (y : Run). Kept w number from (followed y.next y (runs_over room input n y.world y.number y.from))) (sym (goes room input (spot w number from []) (accepted w h)))
           (kept_more w number from inside few h (runs_over room input n x.world x.number x.from) x.next refl
           (λ e. runs-end n x.world x.number x.from (run-kept P next-kept (spot w number from []) h) (omega (arith, enough, on w number from inside few e)) (f.within inside) (omega (arith, few, f.count))))
 
 -- ---- THE LOG IN PARTS
 module _ (room : ℕ) (large : 16384 ≤ room) (P : World → Type 0) (next-kept : (w : World) (line : List ℕ) → P w → is_bad (parsed_line line) ≡ false → P (after_line w (parsed_line line))) (accepted : (w : World) → P w → refused_by w ≡ 0) where
-  printed-on : (parts : List (List ℕ)) (w : World) (number : ℕ) (rest : List ℕ) → P w → next_of rest 0 ≡ Rest → number + length rest + length (joined parts) < 18446744073709551615
+  printed-on : (parts : List (List ℕ)) (w : World) (number : ℕ) (rest : List ℕ) → P w → next_of rest 0 ≡ Ok None → number + length rest + length (joined parts) < 18446744073709551615
       → parts_printed room w number rest parts ≡ rest_text w number [] (rest ++ joined parts)
   unfolding parts_printed
   printed-on [] w number rest p e few = sym (ap (rest_text w number []) (append-nil rest) ∙ step_end w number rest 0 e)
@@ -297,13 +291,13 @@ module _ (room : ℕ) (large : 16384 ≤ room) (P : World → Type 0) (next-kept
       fewer = omega (arith, few, length-append rest part, length-append part (joined parts), length-drop r.from input, ends.forward.count, ends.forward.within (omega arith))
 
       goal : Type 0
-      goal = next_of behind 0 ≡ Rest → r.number + length behind + length (joined parts) < 18446744073709551615 → parts_printed room r.world r.number behind parts ≡ rest_text r.world r.number [] (behind ++ joined parts)
+      goal = next_of behind 0 ≡ Ok None → r.number + length behind + length (joined parts) < 18446744073709551615 → parts_printed room r.world r.number behind parts ≡ rest_text r.world r.number [] (behind ++ joined parts)
 
       go : (next : Next) → r.next ≡ next → goal → r.text ++ unless_bad next (parts_printed room r.world r.number behind parts) ≡ r.text ++ left_text r.world r.number next (behind ++ joined parts)
-      go (Line place) h ih = never (sym (ap is_line h) ∙ ends.stops)
-      go Rest h ih = ap (λ (t : List ℕ). r.text ++ t) (ih (rest-anywhere behind r.from 0 (ends.rest h)) fewer)
-      go (Bad why) h ih = refl
-      go (Refused why) h ih = refl
+      go (Ok (Some place)) h ih = never (sym (ap is_line h) ∙ ends.stops)
+      go (Ok None) h ih = ap (λ (t : List ℕ). r.text ++ t) (ih (rest-anywhere behind r.from 0 (ends.rest h)) fewer)
+      go (Err (Bad why)) h ih = refl
+      go (Err (Refused why)) h ih = refl
 
   -- from a fresh player, an input in parts of any lengths prints its log
   pub log-in-parts : (parts : List (List ℕ)) → P fresh_world → length (joined parts) + 1 < 18446744073709551615 → parts_printed room fresh_world 1 [] parts ≡ log_text (joined parts)
@@ -317,8 +311,8 @@ allowed = refl
 zeroed : (ram : List ℕ) → length ram ≡ 65536 → made_ram ram ≡ replicate 65536 0
 unfolding made_ram refusal
 zeroed ram e =
-    ap (λ (n : ℕ). cond (is_done (made_refusal n)) (replicate n 0) ram) e
-    ∙ ap (λ (b : Bool). cond (is_done (refusal b true true true)) (replicate 65536 0) ram) allowed
+    ap (λ (n : ℕ). cond (is_ok (made_refusal n)) (replicate n 0) ram) e
+    ∙ ap (λ (b : Bool). cond (is_ok (refusal b true true true)) (replicate 65536 0) ram) allowed
 
 pub begins-fresh : (ram : List ℕ) → length ram ≡ 65536 → world (fresh_player (length ram)) (made_ram ram) (replicate chip_queues (pos 0)) ≡ fresh_world
 begins-fresh ram e = λ i. world (fresh_player (e i)) (zeroed ram e i) (replicate chip_queues (pos 0))

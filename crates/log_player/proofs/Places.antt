@@ -10,7 +10,7 @@ use lib.Seq.{sets, get_or-set_same, get_or-set_other, get_or-take, get_or-drop}
 use Rattle.sizes.specs.Sizes.{num_channels, stems_per_frame}
 use Rattle.num.specs.Lists.{part}
 use Rattle.frames.proofs.Counts.{zero-add}
-use Rattle.sides.specs.Sides.{side_sum, side_of, added_to}
+use Rattle.sides.specs.Sides.{side_sum, side_of, added, added_to}
 use Rattle.sides.proofs.Added.{added-length}
 use Rattle.sides.proofs.Frames.{side-both, side-by}
 
@@ -87,14 +87,14 @@ module _ (plus : ℤ → ℤ → ℤ) (stems others : List ℤ) (hand first : �
   sum n = side_of n hand stems others
 
   added-ahead : (n i : ℕ) → n ≤ i → get_or (with-frames n) (first + i) (pos 0) ≡ get_or side (first + i) (pos 0)
-  unfolding added_to
+  unfolding added
   added-ahead zero i h = refl
   added-ahead (suc n) i h =
       let l = with-frames n in
       get_or-set_other l (first + n) (first + i) (plus (get_or l (first + n) (pos 0)) (sum n)) (pos 0) (λ e. absurd (omega arith)) ∙ added-ahead n i (omega arith)
 
   added-at : (n i : ℕ) → i < n → first + n ≤ length side → get_or (with-frames n) (first + i) (pos 0) ≡ plus (get_or side (first + i) (pos 0)) (sum i)
-  unfolding added_to
+  unfolding added
   added-at zero i h k = absurd (omega arith)
   added-at (suc n) i h k = step n i h k (λ y. added-at n i y (omega arith))
     where

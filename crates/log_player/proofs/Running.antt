@@ -1,4 +1,5 @@
 -- The lines of an input, one more at a time. Assumes nothing.
+use Rattle.std.specs.Prelude.{Ok, Some, Err, is_ok}
 use mathlib.Core.Path.{◌≡◌, refl, sym, ap, ◌∙◌, subst}
 use mathlib.Core.Bool.{true, false}
 use mathlib.Core.List.{List, [], ◌++◌, append-nil}
@@ -7,19 +8,23 @@ use native.Mathlib.Omega.{arith}
 use lib.IntN.{ℤ}
 use lib.ListN.{length, drop, get_or, length-append}
 use lib.Seq.{sets}
-use borrow.Author.Tests.{eq-eqb, ne_eqb}
+use Rattle.num.proofs.Choice.{never}
 use Rattle.decimal.specs.Written.{Put}
 use Rattle.log_lines.specs.Texts.{bad_line}
 use Rattle.decimal.proofs.Writing.{put-append, put-none}
-use Rattle.s3w2.specs.Answers.{number_of}
+use Rattle.s3w2.specs.declared.Refusal.{Refusal}
+use Rattle.s3w2.specs.declared.Refusal.TheVariants.{RamLength, QueueBuffer, NotAccepted, StemBuffer}
+use Rattle.s3w2.specs.Answers.{Checked, refusal_number, number_of}
 use Rattle.s3w2.specs.Refusals.{sound_refusal}
 use Rattle.log_player.specs.declared.Player.{Player}
 use Rattle.log_player.specs.declared.Ran.{Ran}
-use Rattle.log_player.specs.declared.Next.{Next}
-use Rattle.log_player.specs.declared.Next.TheVariants.{Line, Rest, Bad, Refused}
+use Rattle.log_lines.specs.declared.LineFault.{LineFault}
+use Rattle.log_lines.specs.Lines as log
+use Rattle.log_player.specs.Steps.{Next}
+use Rattle.log_player.specs.declared.Stop.TheVariants.{Bad, Refused}
 use Rattle.log_player.specs.Worlds.{World, world}
 use Rattle.log_player.specs.Steps.{next_of}
-use Rattle.log_player.specs.Runs.{has_room, Spot, spot, Run, stop_text, stops_at, run_from, refused_by, log_run, ran_to, ran_as}
+use Rattle.log_player.specs.Runs.{has_room, Spot, spot, Run, stop_text, stops_at, run_from, refusal_in, refused_by, unless_refused, log_run, ran_to, ran_as}
 use Rattle.log_player.specs.Batches.{NoLine, Batches, Stops}
 use Rattle.log_player.proofs.Spots.{plays-none, plays-full, found-there, found-full, run-stops}
 use Rattle.log_player.proofs.Rooms.{room-is}
@@ -80,24 +85,26 @@ module _ (input : List ℕ) (run : Run) (p : Player) (ram : List ℕ) (queues : 
 
 -- ---- what `stop` promises
 module _ (p : Player) (from number at : ℕ) (out : List ℕ) (r : Ran) where
-  pub stops-rest : (next : Next) → next ≡ Rest → at ≤ length out → r ≡ ran_as p Rest from number at → Stops next p from number out out at r
-  stops-rest next n h e =
-      subst (λ (x : Next). Stops x p from number out out at r) (sym n)
-      (record { is = e ∙ ap (ran_as p Rest from number) (sym (ap (λ (x : Ran). x.end) e)); put = put-none out at r.end (omega (arith, h, ap (λ (x : Ran). x.end) e)); short = omega arith })
+  pub stops-none : (next : Next) → stop_text number next ≡ [] → at ≤ length out → r ≡ ran_as p next from number at → Stops next p from number out out at r
+  stops-none next n h e = record {
+    is = e ∙ ap (ran_as p next from number) (sym (ap (λ (x : Ran). x.end) e));
+    put = subst (λ (text : List ℕ). Put out out at text r.end) (sym n) (put-none out at r.end (omega (arith, h, ap (λ (x : Ran). x.end) e)));
+    short = rw n (omega arith);
+  }
 
-  pub stops-bad : (now : List ℕ) (why end : ℕ) → r ≡ ran_as p (Bad why) from number end → Put out now at (bad_line number why) end → length (bad_line number why) ≤ 29 → Stops (Bad why) p from number out now at r
+  pub stops-bad : (now : List ℕ) (why : LineFault) (end : ℕ) → r ≡ ran_as p (Err (Bad why)) from number end → Put out now at (bad_line number (log.number_of why)) end → length (bad_line number (log.number_of why)) ≤ 29 → Stops (Err (Bad why)) p from number out now at r
   stops-bad now why end e t s =
       let k = ap (λ (x : Ran). x.end) e in
-      record { is = e ∙ ap (ran_as p (Bad why) from number) (sym k); put = subst (Put out now at (bad_line number why)) (sym k) t; short = s }
+      record { is = e ∙ ap (ran_as p (Err (Bad why)) from number) (sym k); put = subst (Put out now at (bad_line number (log.number_of why))) (sym k) t; short = s }
 
   pub stops_as : (now : List ℕ) (next other : Next) → next ≡ other → Stops other p from number out now at r → Stops next p from number out now at r
   stops_as now next other e s = subst (λ (x : Next). Stops x p from number out now at r) (sym e) s
 
 -- where there is no room, it ends too
-pub running-full : (input : List ℕ) (run : Run) (p : Player) (ram : List ℕ) (queues : List ℤ) (line place end : ℕ) (out mid : List ℕ) → has_room (length out) end line ≡ false → Running input run (world p ram queues) line place out mid end → Promised run ram queues out mid (ran_as p (Line place) place line end)
+pub running-full : (input : List ℕ) (run : Run) (p : Player) (ram : List ℕ) (queues : List ℤ) (line place end : ℕ) (out mid : List ℕ) → has_room (length out) end line ≡ false → Running input run (world p ram queues) line place out mid end → Promised run ram queues out mid (ran_as p (Ok (Some place)) place line end)
 running-full input run p ram queues line place end out mid full r =
-    subst (λ (v : Run). Promised v ram queues out mid (ran_as p (Line place) place line end)) (sym is)
-    (ap (ran_as p (Line place) place line) whole, (refl, (refl, (rw (append-nil r.text) r.put.1, omega (arith, whole, r.put.0)))))
+    subst (λ (v : Run). Promised v ram queues out mid (ran_as p (Ok (Some place)) place line end)) (sym is)
+    (ap (ran_as p (Ok (Some place)) place line) whole, (refl, (refl, (rw (append-nil r.text) r.put.1, omega (arith, whole, r.put.0)))))
   where
     here : Spot
     here = spot (world p ram queues) line place r.text
@@ -108,26 +115,50 @@ running-full input run p ram queues line place end out mid full r =
     none : has_room (length out) (length r.text) line ≡ false
     none = ap (λ (k : ℕ). has_room (length out) k line) (sym r.whole) ∙ full
 
-    is : run ≡ stops_at here (Line place)
+    is : run ≡ stops_at here (Ok (Some place))
     is = sym r.ahead ∙ run-stops (length out) input here (plays-full (length out) input here none) ∙ ap (stops_at here) (found-full (length out) input here none)
 
 -- ---- `run`: refused, or not
-pub refused : (p : Player) (ram : List ℕ) (queues : List ℤ) (why : ℕ) → why ≡ get_or (number_of (sound_refusal p.chip (length ram) (length queues))) 0 0 → why ≡ refused_by (world p ram queues)
-unfolding refused_by
-refused p ram queues why e = e
-
-module _ (out input : List ℕ) (p : Player) (ram : List ℕ) (queues : List ℤ) (number from why : ℕ) (e : why ≡ refused_by (world p ram queues)) where
+-- `r` is the refusal as the code found it
+module _ (out input : List ℕ) (p : Player) (ram : List ℕ) (queues : List ℤ) (number from : ℕ) (r : Checked) (e : r ≡ sound_refusal p.chip (length ram) (length queues)) where
   abbrev start : Spot
   start = spot (world p ram queues) number from []
 
-  pub run-refused : (r : Ran) → (why ≡ 0 → ⊥) → r ≡ ran_as p (Refused why) from number 0 → Promised (log_run (length out) input start) ram queues out out r
+  pub run-refused : (x : Refusal) → r ≡ Err x → (answer : Ran) → answer ≡ ran_as p (Err (Refused x)) from number 0 → Promised (log_run (length out) input start) ram queues out out answer
   unfolding log_run
-  run-refused r n k =
-      subst (λ (v : Run). Promised v ram queues out out r) (sym is) (k, (refl, (refl, (refl, omega arith))))
+  run-refused x h answer k =
+      subst (λ (v : Run). Promised v ram queues out out answer) (sym is) (k, (refl, (refl, (refl, omega arith))))
     where
-      is : log_run (length out) input start ≡ stops_at start (Refused why)
-      is = rw (← e, ne_eqb why 0 n)
+      is : log_run (length out) input start ≡ stops_at start (Err (Refused x))
+      is = ap (λ (y : Checked). unless_refused y start (run_from (length out) input start)) (sym e ∙ h)
 
-  pub run-accepted : why ≡ 0 → run_from (length out) input start ≡ log_run (length out) input start
+  pub allowed : is_ok r ≡ true → 0 ≡ refused_by (world p ram queues)
+  unfolding refused_by
+  allowed h = sym (none r h) ∙ ap (λ (x : Checked). get_or (number_of x) 0 0) e
+    where
+      none : (y : Checked) → is_ok y ≡ true → get_or (number_of y) 0 0 ≡ 0
+      none (Ok x) k = refl
+      none (Err x) k = never (sym k)
+
+  pub run-accepted : is_ok r ≡ true → run_from (length out) input start ≡ log_run (length out) input start
   unfolding log_run
-  run-accepted z = rw (eq-eqb (refused_by (world p ram queues)) 0 (sym e ∙ z))
+  run-accepted h = go r h ∙ ap (λ (y : Checked). unless_refused y start (run_from (length out) input start)) e
+    where
+      go : (y : Checked) → is_ok y ≡ true → run_from (length out) input start ≡ unless_refused y start (run_from (length out) input start)
+      go (Ok x) k = refl
+      go (Err x) k = never (sym k)
+
+-- a refusal has a number
+number-not : (why : Refusal) → refusal_number why ≡ 0 → ⊥
+number-not RamLength e = omega (arith, e)
+number-not QueueBuffer e = omega (arith, e)
+number-not NotAccepted e = omega (arith, e)
+number-not StemBuffer e = omega (arith, e)
+
+pub goes : (room : ℕ) (input : List ℕ) (s : Spot) → refused_by s.world ≡ 0 → log_run room input s ≡ run_from room input s
+unfolding log_run refused_by
+goes room input s e = go (refusal_in s.world) e
+  where
+    go : (y : Checked) → get_or (number_of y) 0 0 ≡ 0 → unless_refused y s (run_from room input s) ≡ run_from room input s
+    go (Ok x) k = refl
+    go (Err x) k = absurd (number-not x k)

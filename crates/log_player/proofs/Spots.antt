@@ -1,4 +1,5 @@
 -- A run's lines, one after the other. Assumes nothing.
+use Rattle.std.specs.Prelude.{Result, Ok, Some, None, Err}
 use mathlib.Core.Path.{◌≡◌, refl, sym, ap, ◌∙◌}
 use mathlib.Core.Bool.{Bool, true, false, cond}
 use mathlib.Core.List.{List}
@@ -8,11 +9,12 @@ use lib.Dec.{eqb, leb}
 use lib.ListN.{length, drop}
 use borrow.Author.Tests.{eqb-false}
 use Rattle.num.proofs.Choice.{never}
-use Rattle.log_lines.specs.declared.Line.TheVariants.{Malformed}
-use Rattle.log_lines.specs.Lines.{parsed_line, bad_number, is_bad}
-use Rattle.log_player.specs.declared.Next.{Next}
-use Rattle.log_player.specs.declared.Next.TheVariants.{Line, Rest, Bad, Refused}
-use Rattle.log_player.specs.Steps.{first_line, next_of}
+use Rattle.log_lines.specs.declared.Line as lines
+use Rattle.log_lines.specs.declared.LineFault.{LineFault}
+use Rattle.log_lines.specs.declared.LineFault.TheVariants.{Malformed}
+use Rattle.log_lines.specs.Lines.{parsed_line, is_bad}
+use Rattle.log_player.specs.declared.Stop.TheVariants.{Bad, Refused}
+use Rattle.log_player.specs.Steps.{Next, line_found, first_line, next_of}
 use Rattle.log_player.specs.Runs.{has_room, Spot, spot_behind, is_line, found_by, plays_line, lines_played, Run, stops_at, run_from}
 use Rattle.log_player.proofs.Stops.{first_short, next_past}
 
@@ -21,7 +23,7 @@ pub line-within : (rest : List ℕ) (at : ℕ) → is_line (next_of rest at) ≡
 unfolding next_of
 line-within rest at e = go (eqb (length (first_line rest)) (length rest)) refl
   where
-    none : (b : Bool) → is_line (cond b Rest (Bad (bad_number Malformed))) ≡ true → length (first_line rest) < length rest
+    none : (b : Bool) → is_line (cond b (Ok None) (Err (Bad Malformed))) ≡ true → length (first_line rest) < length rest
     none true h = never (sym h)
     none false h = never (sym h)
 
@@ -37,20 +39,20 @@ line-within rest at e = go (eqb (length (first_line rest)) (length rest)) refl
 -- and is not bad
 pub good-line : (rest : List ℕ) (at : ℕ) → is_line (next_of rest at) ≡ true → is_bad (parsed_line (first_line rest)) ≡ false
 unfolding next_of
-good-line rest at e = go (eqb (length (first_line rest)) (length rest)) (leb (length rest) 16) (is_bad (parsed_line (first_line rest))) refl e
+good-line rest at e = go (eqb (length (first_line rest)) (length rest)) (leb (length rest) 16) (parsed_line (first_line rest)) e
   where
-    go : (a b m : Bool) → is_bad (parsed_line (first_line rest)) ≡ m → is_line (cond a (cond b Rest (Bad (bad_number Malformed))) (cond m (Bad (bad_number (parsed_line (first_line rest)))) (Line (at + length (first_line rest) + 1)))) ≡ true → is_bad (parsed_line (first_line rest)) ≡ false
-    go true true m t h = never (sym h)
-    go true false m t h = never (sym h)
-    go false b true t h = never (sym h)
-    go false b false t h = t
+    go : (a b : Bool) (p : Result lines.Line LineFault) → is_line (cond a (cond b (Ok None) (Err (Bad Malformed))) (line_found (at + length (first_line rest) + 1) p)) ≡ true → is_bad p ≡ false
+    go true true p h = never (sym h)
+    go true false p h = never (sym h)
+    go false b (Err why) h = never (sym h)
+    go false b (Ok line) h = refl
 
 -- a line by its place
-pub line_at : (next : Next) → is_line next ≡ true → (P : Next → Type 0) → ((place : ℕ) → next ≡ Line place → P (Line place)) → P next
-line_at (Line place) e P f = f place refl
-line_at Rest e P f = never (sym e)
-line_at (Bad why) e P f = never (sym e)
-line_at (Refused why) e P f = never (sym e)
+pub line_at : (next : Next) → is_line next ≡ true → (P : Next → Type 0) → ((place : ℕ) → next ≡ Ok (Some place) → P (Ok (Some place))) → P next
+line_at (Ok (Some place)) e P f = f place refl
+line_at (Ok None) e P f = never (sym e)
+line_at (Err (Bad why)) e P f = never (sym e)
+line_at (Err (Refused why)) e P f = never (sym e)
 
 module _ (room : ℕ) (input : List ℕ) where
   abbrev holds : Spot → Next
@@ -88,7 +90,7 @@ module _ (room : ℕ) (input : List ℕ) where
   unfolding found_by
   found-there s r = rw r
 
-  pub found-full : (s : Spot) → room_at s ≡ false → found_by room input s ≡ Line s.from
+  pub found-full : (s : Spot) → room_at s ≡ false → found_by room input s ≡ Ok (Some s.from)
   unfolding found_by
   found-full s r = rw r
 

@@ -1,4 +1,5 @@
 -- A log line by line: what a step prints, and what is left to print, are what the log prints. Assumes nothing.
+use Rattle.std.specs.Prelude.{Result, Ok, Some, None, Err}
 use mathlib.Core.Path.{◌≡◌, refl, ap, ◌∙◌}
 use mathlib.Core.Bool.{Bool, true, false, cond}
 use mathlib.Core.List.{List, [], ◌∷◌, ◌++◌, append_assoc, append-nil}
@@ -8,11 +9,13 @@ use lib.Dec.{eqb, leb}
 use lib.ListN.{length, drop, length-append}
 use lib.Seq.{drop-append-le}
 use borrow.Author.Tests.{eqb-true, eqb-false, leb-false, ne_eqb}
-use Rattle.log_lines.specs.declared.Line.TheVariants.{Malformed}
-use Rattle.log_lines.specs.Lines.{parsed_line, bad_number, is_bad}
+use Rattle.log_lines.specs.declared.Line.{Line}
+use Rattle.log_lines.specs.declared.LineFault.{LineFault}
+use Rattle.log_lines.specs.declared.LineFault.TheVariants.{Malformed}
+use Rattle.log_lines.specs.Lines.{parsed_line, number_of, bad_number, is_bad}
 use Rattle.log_lines.specs.Texts.{bad_line}
 use Rattle.log_lines.proofs.Long.{long-line}
-use Rattle.log_player.specs.declared.Next.TheVariants.{Line as Played, Rest, Bad}
+use Rattle.log_player.specs.declared.Stop.TheVariants.{Bad}
 use Rattle.log_player.specs.Worlds.{World}
 use Rattle.log_player.specs.Applied.{after_line, printed}
 use Rattle.log_player.specs.Logs.{end_text, rest_text}
@@ -48,12 +51,12 @@ first-kept (c ∷ cs) more h = go (eqb c 10) refl (first-kept cs more)
         rw e (ap (λ (l : List ℕ). c ∷ l) (ih k))
 
 -- ---- an input whose first line is too long, or may be
-too_long : (l : List ℕ) (w : World) (number : ℕ) (pre : List ℕ) → 16 < length pre + length (first_line l) → rest_text w number pre l ≡ bad_line number (bad_number Malformed)
+too_long : (l : List ℕ) (w : World) (number : ℕ) (pre : List ℕ) → 16 < length pre + length (first_line l) → rest_text w number pre l ≡ bad_line number (number_of Malformed)
 unfolding rest_text first_line
 too_long [] w number pre h = rw (ne_eqb (length pre) 0 (λ e. absurd (omega arith)))
 too_long (c ∷ cs) w number pre h = go (eqb c 10) refl (too_long cs w number (pre ++ (c ∷ [])))
   where
-    go : (b : Bool) → eqb c 10 ≡ b → (16 < length (pre ++ (c ∷ [])) + length (first_line cs) → rest_text w number (pre ++ (c ∷ [])) cs ≡ bad_line number (bad_number Malformed)) → rest_text w number pre (c ∷ cs) ≡ bad_line number (bad_number Malformed)
+    go : (b : Bool) → eqb c 10 ≡ b → (16 < length (pre ++ (c ∷ [])) + length (first_line cs) → rest_text w number (pre ++ (c ∷ [])) cs ≡ bad_line number (number_of Malformed)) → rest_text w number pre (c ∷ cs) ≡ bad_line number (number_of Malformed)
     go true e ih =
         let k : 16 < length pre = (let z : 16 < length pre + 0 = rw e at h in omega arith) in
         rw (e, long-line pre k)
@@ -90,55 +93,55 @@ no-line (c ∷ cs) w number pre h = go (eqb c 10) refl (no-line cs w number (pre
 -- ---- THE STEPS: whatever follows what was read
 module _ (w : World) (number : ℕ) (rest : List ℕ) (from : ℕ) where
   -- a line that is played prints its part, and the log goes on behind it
-  pub step_line : (place : ℕ) (more : List ℕ) → next_of rest from ≡ Played place → rest_text w number [] (rest ++ more) ≡ printed w (parsed_line (first_line rest)) ++ rest_text (after_line w (parsed_line (first_line rest))) (suc number) [] (drop (suc (length (first_line rest))) rest ++ more)
+  pub step_line : (place : ℕ) (more : List ℕ) → next_of rest from ≡ Ok (Some place) → rest_text w number [] (rest ++ more) ≡ printed w (parsed_line (first_line rest)) ++ rest_text (after_line w (parsed_line (first_line rest))) (suc number) [] (drop (suc (length (first_line rest))) rest ++ more)
   unfolding next_of
   step_line place more e = go (eqb (length (first_line rest)) (length rest)) refl
     where
-      far : cond (leb (length rest) 16) Rest (Bad (bad_number Malformed)) ≡ Played place → (b : Bool) → leb (length rest) 16 ≡ b → ⊥
-      far q true t = let z : Rest ≡ Played place = rw t at q in let y : ◌≡◌ {A = ℕ} 0 1 = cc in omega arith
-      far q false t = let z : Bad (bad_number Malformed) ≡ Played place = rw t at q in let y : ◌≡◌ {A = ℕ} 0 1 = cc in omega arith
+      far : cond (leb (length rest) 16) (Ok None) (Err (Bad Malformed)) ≡ Ok (Some place) → (b : Bool) → leb (length rest) 16 ≡ b → ⊥
+      far q true t = let z : Ok None ≡ Ok (Some place) = rw t at q in let y : ◌≡◌ {A = ℕ} 0 1 = cc in omega arith
+      far q false t = let z : Err (Bad Malformed) ≡ Ok (Some place) = rw t at q in let y : ◌≡◌ {A = ℕ} 0 1 = cc in omega arith
 
-      played : length (first_line rest) < length rest → (b : Bool) → is_bad (parsed_line (first_line rest)) ≡ b → eqb (length (first_line rest)) (length rest) ≡ false → rest_text w number [] (rest ++ more) ≡ printed w (parsed_line (first_line rest)) ++ rest_text (after_line w (parsed_line (first_line rest))) (suc number) [] (drop (suc (length (first_line rest))) rest ++ more)
-      played h true m t = absurd (let z : Bad (bad_number (parsed_line (first_line rest))) ≡ Played place = rw (t, m) at e in let y : ◌≡◌ {A = ℕ} 0 1 = cc in omega arith)
-      played h false m t =
+      played : length (first_line rest) < length rest → (p : Result Line LineFault) → parsed_line (first_line rest) ≡ p → eqb (length (first_line rest)) (length rest) ≡ false → rest_text w number [] (rest ++ more) ≡ printed w (parsed_line (first_line rest)) ++ rest_text (after_line w (parsed_line (first_line rest))) (suc number) [] (drop (suc (length (first_line rest))) rest ++ more)
+      played h (Err why) m t = absurd (let z : Err (Bad why) ≡ Ok (Some place) = rw (t, m) at e in let y : ◌≡◌ {A = ℕ} 0 1 = cc in omega arith)
+      played h (Ok line) m t =
           whole (rest ++ more) w number [] (rw (first-kept rest more h, length-append rest more) (omega arith))
           ∙ rw (first-kept rest more h, m, drop-append-le (suc (length (first_line rest))) rest more (omega arith))
 
       go : (b : Bool) → eqb (length (first_line rest)) (length rest) ≡ b → rest_text w number [] (rest ++ more) ≡ printed w (parsed_line (first_line rest)) ++ rest_text (after_line w (parsed_line (first_line rest))) (suc number) [] (drop (suc (length (first_line rest))) rest ++ more)
       go true t = absurd (far (rw t at e) (leb (length rest) 16) refl)
-      go false t = played (less (eqb-false (length (first_line rest)) (length rest) t) (first_short rest)) (is_bad (parsed_line (first_line rest))) refl t
+      go false t = played (less (eqb-false (length (first_line rest)) (length rest) t) (first_short rest)) (parsed_line (first_line rest)) refl t
         where
           less : {a b : ℕ} → (a ≡ b → ⊥) → a ≤ b → a < b
           less n h = omega arith
 
   -- a bad line ends it
-  pub step-bad : (why : ℕ) (more : List ℕ) → next_of rest from ≡ Bad why → rest_text w number [] (rest ++ more) ≡ bad_line number why
+  pub step-bad : (why : LineFault) (more : List ℕ) → next_of rest from ≡ Err (Bad why) → rest_text w number [] (rest ++ more) ≡ bad_line number (number_of why)
   unfolding next_of
   step-bad why more e = go (eqb (length (first_line rest)) (length rest)) refl
     where
-      open-line : length (first_line rest) ≡ length rest → (b : Bool) → leb (length rest) 16 ≡ b → eqb (length (first_line rest)) (length rest) ≡ true → rest_text w number [] (rest ++ more) ≡ bad_line number why
-      open-line h true s t = absurd (let z : Rest ≡ Bad why = rw (t, s) at e in let y : ◌≡◌ {A = ℕ} 0 1 = cc in omega arith)
+      open-line : length (first_line rest) ≡ length rest → (b : Bool) → leb (length rest) 16 ≡ b → eqb (length (first_line rest)) (length rest) ≡ true → rest_text w number [] (rest ++ more) ≡ bad_line number (number_of why)
+      open-line h true s t = absurd (let z : Ok None ≡ Err (Bad why) = rw (t, s) at e in let y : ◌≡◌ {A = ℕ} 0 1 = cc in omega arith)
       open-line h false s t =
-          let z : Bad (bad_number Malformed) ≡ Bad why = rw (t, s) at e in
-          let y : bad_number Malformed ≡ why = cc in
-          too_long (rest ++ more) w number [] (omega (arith, first-longer rest more h, leb-false (length rest) 16 s)) ∙ ap (bad_line number) y
+          let z : Err (Bad Malformed) ≡ Err (Bad why) = rw (t, s) at e in
+          let y : Malformed ≡ why = cc in
+          too_long (rest ++ more) w number [] (omega (arith, first-longer rest more h, leb-false (length rest) 16 s)) ∙ ap (λ (f : LineFault). bad_line number (number_of f)) y
 
-      closed : length (first_line rest) < length rest → (b : Bool) → is_bad (parsed_line (first_line rest)) ≡ b → eqb (length (first_line rest)) (length rest) ≡ false → rest_text w number [] (rest ++ more) ≡ bad_line number why
-      closed h true m t =
-          let z : Bad (bad_number (parsed_line (first_line rest))) ≡ Bad why = rw (t, m) at e in
-          let y : bad_number (parsed_line (first_line rest)) ≡ why = cc in
-          whole (rest ++ more) w number [] (rw (first-kept rest more h, length-append rest more) (omega arith)) ∙ rw (first-kept rest more h, m) (ap (bad_line number) y)
-      closed h false m t = absurd (let z : Played (from + length (first_line rest) + 1) ≡ Bad why = rw (t, m) at e in let y : ◌≡◌ {A = ℕ} 0 1 = cc in omega arith)
+      closed : length (first_line rest) < length rest → (p : Result Line LineFault) → parsed_line (first_line rest) ≡ p → eqb (length (first_line rest)) (length rest) ≡ false → rest_text w number [] (rest ++ more) ≡ bad_line number (number_of why)
+      closed h (Err fault) m t =
+          let z : Err (Bad fault) ≡ Err (Bad why) = rw (t, m) at e in
+          let y : fault ≡ why = cc in
+          whole (rest ++ more) w number [] (rw (first-kept rest more h, length-append rest more) (omega arith)) ∙ rw (first-kept rest more h, m) (ap (λ (f : LineFault). bad_line number (number_of f)) y)
+      closed h (Ok line) m t = absurd (let z : Ok (Some (from + length (first_line rest) + 1)) ≡ Err (Bad why) = rw (t, m) at e in let y : ◌≡◌ {A = ℕ} 0 1 = cc in omega arith)
 
-      go : (b : Bool) → eqb (length (first_line rest)) (length rest) ≡ b → rest_text w number [] (rest ++ more) ≡ bad_line number why
+      go : (b : Bool) → eqb (length (first_line rest)) (length rest) ≡ b → rest_text w number [] (rest ++ more) ≡ bad_line number (number_of why)
       go true t = open-line (eqb-true (length (first_line rest)) (length rest) t) (leb (length rest) 16) refl t
-      go false t = closed (less (eqb-false (length (first_line rest)) (length rest) t) (first_short rest)) (is_bad (parsed_line (first_line rest))) refl t
+      go false t = closed (less (eqb-false (length (first_line rest)) (length rest) t) (first_short rest)) (parsed_line (first_line rest)) refl t
         where
           less : {a b : ℕ} → (a ≡ b → ⊥) → a ≤ b → a < b
           less n h = omega arith
 
   -- where no whole line is left and nothing follows, the log ends
-  pub step_end : next_of rest from ≡ Rest → rest_text w number [] rest ≡ end_text w.player number (length rest)
+  pub step_end : next_of rest from ≡ Ok None → rest_text w number [] rest ≡ end_text w.player number (length rest)
   unfolding next_of
   step_end e = go (eqb (length (first_line rest)) (length rest)) refl
     where
@@ -146,8 +149,8 @@ module _ (w : World) (number : ℕ) (rest : List ℕ) (from : ℕ) where
       go true t =
           let k : 0 + length rest ≡ length rest = omega arith in
           no-line rest w number [] (eqb-true (length (first_line rest)) (length rest) t) ∙ ap (λ (n : ℕ). end_text w.player number n) k
-      go false t = tell (is_bad (parsed_line (first_line rest))) refl
+      go false t = tell (parsed_line (first_line rest)) refl
         where
-          tell : (b : Bool) → is_bad (parsed_line (first_line rest)) ≡ b → rest_text w number [] rest ≡ end_text w.player number (length rest)
-          tell true m = absurd (let z : Bad (bad_number (parsed_line (first_line rest))) ≡ Rest = rw (t, m) at e in let y : ◌≡◌ {A = ℕ} 0 1 = cc in omega arith)
-          tell false m = absurd (let z : Played (from + length (first_line rest) + 1) ≡ Rest = rw (t, m) at e in let y : ◌≡◌ {A = ℕ} 0 1 = cc in omega arith)
+          tell : (p : Result Line LineFault) → parsed_line (first_line rest) ≡ p → rest_text w number [] rest ≡ end_text w.player number (length rest)
+          tell (Err why) m = absurd (let z : Err (Bad why) ≡ Ok None = rw (t, m) at e in let y : ◌≡◌ {A = ℕ} 0 1 = cc in omega arith)
+          tell (Ok line) m = absurd (let z : Ok (Some (from + length (first_line rest) + 1)) ≡ Ok None = rw (t, m) at e in let y : ◌≡◌ {A = ℕ} 0 1 = cc in omega arith)

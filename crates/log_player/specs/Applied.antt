@@ -1,8 +1,9 @@
 -- What a line does, and what it prints. Registers are core 0's.
-use Rattle.std.specs.Prelude.{List, [], ℕ, min, ℤ, pos, length, replicate}
+use Rattle.std.specs.Prelude.{Result, Ok, Err, List, [], ℕ, min, ℤ, pos, length, replicate}
 use Rattle.version.specs.Versions.{version_of}
 use Rattle.log_lines.specs.declared.Line.{Line}
-use Rattle.log_lines.specs.declared.Line.TheVariants.{Write, WriteRam, Read, Peek, Clock, Version, Malformed, Unmapped}
+use Rattle.log_lines.specs.declared.Line.TheVariants.{Write, WriteRam, Read, Peek, Clock, Version}
+use Rattle.log_lines.specs.declared.LineFault.{LineFault}
 use Rattle.log_lines.specs.Texts.{frame_lines, read_back_line, peak_of}
 use Rattle.s3w2.specs.declared.Chip.{Chip}
 use Rattle.s3w2.specs.Answers.{byte_answered}
@@ -46,24 +47,23 @@ pub record Effect : Type 0 where
 abbrev pub effect : Player → List ℕ → List ℤ → List ℕ → Effect
 effect player ram queues text = record { after = world player ram queues; text = text }
 
--- `R` is 82, `P` is 80
-unfoldable pub effect_of : World → Line → Effect
-effect_of w (Write a v) =
+-- `R` is 82, `P` is 80; a bad line does nothing
+unfoldable pub effect_of : World → Result Line LineFault → Effect
+effect_of w (Ok (Write a v)) =
     effect (with_chip w.player (write_register_called w.player.chip (length w.queues) 0 a v).chip) w.ram (write_register_buffer w.player.chip w.queues 0 a v) []
-effect_of w (WriteRam a v) =
+effect_of w (Ok (WriteRam a v)) =
     effect (with_chip w.player (write_pcm_ram_called w.player.chip (length w.ram) a).chip) (write_pcm_ram_ram w.player.chip w.ram a v) w.queues []
-effect_of w (Read a) =
+effect_of w (Ok (Read a)) =
     let called = read_register_called w.player.chip 0 a in
     effect (with_chip w.player called.chip) w.ram w.queues (read_back_line 82 a (byte_answered called.answer))
-effect_of w (Peek a) = effect w.player w.ram w.queues (read_back_line 80 a (byte_answered (peek_register_answer w.player.chip 0 a)))
-effect_of w (Clock n) =
+effect_of w (Ok (Peek a)) = effect w.player w.ram w.queues (read_back_line 80 a (byte_answered (peek_register_answer w.player.chip 0 a)))
+effect_of w (Ok (Clock n)) =
     effect (clocked_player w.player w.ram w.queues (silent n) (silent n)) w.ram w.queues (clocked_text w.player.chip w.ram w.queues (silent n) (silent n))
-effect_of w (Version v) = effect (with_chip w.player (set_version_called w.player.chip (version_of v)).chip) w.ram w.queues []
-effect_of w Malformed = effect w.player w.ram w.queues []
-effect_of w Unmapped = effect w.player w.ram w.queues []
+effect_of w (Ok (Version v)) = effect (with_chip w.player (set_version_called w.player.chip (version_of v)).chip) w.ram w.queues []
+effect_of w (Err why) = effect w.player w.ram w.queues []
 
-abbrev pub after_line : World → Line → World
+abbrev pub after_line : World → Result Line LineFault → World
 after_line w line = (effect_of w line).after
 
-abbrev pub printed : World → Line → List ℕ
+abbrev pub printed : World → Result Line LineFault → List ℕ
 printed w line = (effect_of w line).text

@@ -1,5 +1,5 @@
 -- Lines as the calls of a list, many at a time.
-use Rattle.std.specs.Prelude.{◌≡◌, Bool, cond, false, List, [], ◌++◌, ℕ, zero, suc, ◌+◌, ◌*◌, ◌≤◌, ◌<◌, min, eqb, ℤ, pos, length, drop, get_or, replicate}
+use Rattle.std.specs.Prelude.{◌≡◌, Result, Ok, Err, Bool, cond, false, List, [], ◌++◌, ℕ, zero, suc, ◌+◌, ◌*◌, ◌≤◌, ◌<◌, min, eqb, ℤ, pos, length, drop, get_or, replicate}
 use Rattle.sizes.specs.Sizes.{stems_per_frame}
 use Rattle.num.specs.Lists.{part}
 use Rattle.decimal.specs.Written.{Put}
@@ -7,44 +7,44 @@ use Rattle.frames.specs.declared.Asked.{Asked}
 use Rattle.frames.specs.declared.Asked.TheVariants as asked
 use Rattle.frames.specs.Listing.{write_register_kind, write_pcm_ram_kind, read_register_kind, peek_register_kind, clock_kind, set_version_kind, asked_of, clocked_by, frames_asked}
 use Rattle.log_lines.specs.declared.Line.{Line}
-use Rattle.log_lines.specs.declared.Line.TheVariants.{Write, WriteRam, Read, Peek, Clock, Version, Malformed, Unmapped}
+use Rattle.log_lines.specs.declared.Line.TheVariants.{Write, WriteRam, Read, Peek, Clock, Version}
+use Rattle.log_lines.specs.declared.LineFault.{LineFault}
+use Rattle.log_lines.specs.declared.LineFault.TheVariants.{Malformed}
 use Rattle.log_lines.specs.Texts.{frame_lines, read_back_line}
 use Rattle.log_player.specs.declared.ListedCall.{ListedCall}
-use Rattle.log_player.specs.declared.Next.{Next}
 use Rattle.log_player.specs.declared.Player.{Player}
 use Rattle.log_player.specs.declared.Ran.{Ran}
 use Rattle.log_player.specs.Worlds.{World}
 use Rattle.log_player.specs.Applied.{Effect, effect_of}
-use Rattle.log_player.specs.Steps.{next_of}
+use Rattle.log_player.specs.Steps.{Next, next_of}
 use Rattle.log_player.specs.Runs.{spot, is_line, stop_text, run_from, refused_by, ran_as}
 
 -- ---- the call that a line makes: kind, address, value; a bad line makes none
-abbrev pub no_call_kind : ℕ
-no_call_kind = 6
-
 abbrev pub call_made : ℕ → ℕ → ℕ → ListedCall
 call_made kind address value = record { kind = kind; address = address; value = value }
 
-abbrev pub listed_call : Line → ListedCall
-listed_call (Write address value) = call_made write_register_kind address value
-listed_call (WriteRam address value) = call_made write_pcm_ram_kind address value
-listed_call (Read address) = call_made read_register_kind address 0
-listed_call (Peek address) = call_made peek_register_kind address 0
-listed_call (Clock frames) = call_made clock_kind frames 0
-listed_call (Version version) = call_made set_version_kind version 0
-listed_call Malformed = call_made no_call_kind 0 0
-listed_call Unmapped = call_made no_call_kind 0 0
+abbrev pub line_call : Line → ListedCall
+line_call (Write address value) = call_made write_register_kind address value
+line_call (WriteRam address value) = call_made write_pcm_ram_kind address value
+line_call (Read address) = call_made read_register_kind address 0
+line_call (Peek address) = call_made peek_register_kind address 0
+line_call (Clock frames) = call_made clock_kind frames 0
+line_call (Version version) = call_made set_version_kind version 0
+
+abbrev pub listed_call : Result Line LineFault → Result ListedCall LineFault
+listed_call (Ok line) = Ok (line_call line)
+listed_call (Err why) = Err why
 
 -- the line that a call stands for
-abbrev pub line_as : Asked → Bool → ℕ → ℕ → Line
-line_as asked.WriteRegister is_read address value = Write address value
-line_as asked.WritePcmRam is_read address value = WriteRam address value
-line_as asked.Look is_read address value = cond is_read (Read address) (Peek address)
-line_as asked.Clock is_read address value = Clock address
-line_as asked.SetVersion is_read address value = Version address
-line_as asked.Nothing is_read address value = Malformed
+abbrev pub line_as : Asked → Bool → ℕ → ℕ → Result Line LineFault
+line_as asked.WriteRegister is_read address value = Ok (Write address value)
+line_as asked.WritePcmRam is_read address value = Ok (WriteRam address value)
+line_as asked.Look is_read address value = Ok (cond is_read (Read address) (Peek address))
+line_as asked.Clock is_read address value = Ok (Clock address)
+line_as asked.SetVersion is_read address value = Ok (Version address)
+line_as asked.Nothing is_read address value = Err Malformed
 
-unfoldable pub line_of : ℕ → ℕ → ℕ → Line
+unfoldable pub line_of : ℕ → ℕ → ℕ → Result Line LineFault
 line_of kind address value = line_as (asked_of kind) (eqb kind read_register_kind) address value
 
 -- the first n lines of a list: the world after them, and what they print

@@ -1,7 +1,7 @@
 -- A whole log: what it prints.
 use Rattle.std.specs.Prelude.{cond, List, [], ◌∷◌, ◌++◌, ℕ, suc, eqb, length}
-use Rattle.log_lines.specs.declared.Line.TheVariants.{Malformed}
-use Rattle.log_lines.specs.Lines.{parsed_line, bad_number, is_bad}
+use Rattle.log_lines.specs.declared.LineFault.TheVariants.{Malformed}
+use Rattle.log_lines.specs.Lines.{parsed_line, number_of, bad_number, is_bad}
 use Rattle.log_lines.specs.Texts.{bad_line, peak_line}
 use Rattle.log_player.specs.declared.Player.{Player}
 use Rattle.log_player.specs.Worlds.{World, fresh_world}
@@ -9,7 +9,7 @@ use Rattle.log_player.specs.Applied.{after_line, printed}
 
 -- the end of an input, whose last byte 10 so many bytes follow: they are a malformed line
 abbrev pub end_text : Player → ℕ → ℕ → List ℕ
-end_text p number count = cond (eqb count 0) (peak_line p.left p.right) (bad_line number (bad_number Malformed))
+end_text p number count = cond (eqb count 0) (peak_line p.left p.right) (bad_line number (number_of Malformed))
 
 -- the rest of a log, from line `number` on, of which the bytes `line` were read already
 unfoldable pub rest_text : World → ℕ → List ℕ → List ℕ → List ℕ

@@ -1,8 +1,8 @@
 -- A log read in parts, as a program reads it: a run is handed what the last one left of its input and what was read behind it.
-use Rattle.std.specs.Prelude.{List, [], ◌∷◌, ◌++◌, ℕ, zero, suc, length, drop}
+use Rattle.std.specs.Prelude.{Ok, Some, None, Err, List, [], ◌∷◌, ◌++◌, ℕ, zero, suc, length, drop}
 use Rattle.decimal.specs.Written.{each}
-use Rattle.log_player.specs.declared.Next.{Next}
-use Rattle.log_player.specs.declared.Next.TheVariants.{Line, Rest, Bad, Refused}
+use Rattle.log_player.specs.Steps.{Next}
+use Rattle.log_player.specs.declared.Stop.TheVariants.{Bad, Refused}
 use Rattle.log_player.specs.Worlds.{World}
 use Rattle.log_player.specs.Logs.{end_text}
 use Rattle.log_player.specs.Runs.{Run, spot, log_run}
@@ -13,10 +13,10 @@ text_before r more = record { world = more.world; number = more.number; from = m
 
 -- a run that ended where there was no room is followed by another
 abbrev pub followed : Next → Run → Run → Run
-followed (Line place) r more = text_before r more
-followed Rest r more = r
-followed (Bad why) r more = r
-followed (Refused why) r more = r
+followed (Ok (Some place)) r more = text_before r more
+followed (Ok None) r more = r
+followed (Err (Bad why)) r more = r
+followed (Err (Refused why)) r more = r
 
 -- runs over one input, each with an empty text, so many at most behind the first
 unfoldable pub runs_over : ℕ → List ℕ → ℕ → World → ℕ → ℕ → Run
@@ -27,10 +27,10 @@ runs_over room input (suc n) w number from =
 
 -- nothing follows a bad line, or a refusal
 abbrev pub unless_bad : Next → List ℕ → List ℕ
-unless_bad (Line place) text = text
-unless_bad Rest text = text
-unless_bad (Bad why) text = []
-unless_bad (Refused why) text = []
+unless_bad (Ok (Some place)) text = text
+unless_bad (Ok None) text = text
+unless_bad (Err (Bad why)) text = []
+unless_bad (Err (Refused why)) text = []
 
 -- what the runs over each part and the closing line print, from a world and a line's number on, where `rest` was left
 unfoldable pub parts_printed : ℕ → World → ℕ → List ℕ → List (List ℕ) → List ℕ

@@ -1,16 +1,16 @@
 -- Some of a log played, line by line: the world that it leaves, the number and the place of the line there, what that is, and the text.
-use Rattle.std.specs.Prelude.{Bool, true, false, cond, List, [], ◌++◌, ℕ, zero, suc, ◌+◌, eqb, leb, length, drop, get_or}
+use Rattle.std.specs.Prelude.{Ok, Some, None, Err, Bool, true, false, cond, List, [], ◌++◌, ℕ, zero, suc, ◌+◌, eqb, leb, length, drop, get_or}
 use Rattle.log_lines.specs.Lines.{parsed_line}
+use Rattle.log_lines.specs.Lines as log
 use Rattle.log_lines.specs.Texts.{bad_line}
-use Rattle.s3w2.specs.Answers.{number_of}
+use Rattle.s3w2.specs.Answers.{Checked, number_of}
 use Rattle.s3w2.specs.Refusals.{sound_refusal}
-use Rattle.log_player.specs.declared.Next.{Next}
-use Rattle.log_player.specs.declared.Next.TheVariants.{Line, Rest, Bad, Refused}
+use Rattle.log_player.specs.declared.Stop.TheVariants.{Bad, Refused}
 use Rattle.log_player.specs.declared.Player.{Player}
 use Rattle.log_player.specs.declared.Ran.{Ran}
 use Rattle.log_player.specs.Worlds.{World}
 use Rattle.log_player.specs.Applied.{after_line, printed}
-use Rattle.log_player.specs.Steps.{first_line, next_of}
+use Rattle.log_player.specs.Steps.{Next, first_line, next_of}
 
 -- whether a run goes on with line `number`: there is room behind `end` for a line's text, and a number for the line behind it
 unfoldable pub has_room : ℕ → ℕ → ℕ → Bool
@@ -33,14 +33,14 @@ spot_behind input s =
     spot (after_line s.world (parsed_line line)) (suc s.number) (s.from + length line + 1) (s.text ++ printed s.world (parsed_line line))
 
 abbrev pub is_line : Next → Bool
-is_line (Line place) = true
-is_line Rest = false
-is_line (Bad why) = false
-is_line (Refused why) = false
+is_line (Ok (Some place)) = true
+is_line (Ok None) = false
+is_line (Err (Bad why)) = false
+is_line (Err (Refused why)) = false
 
 -- what a run that puts its text into a buffer of some length finds at a spot: where there is no room it looks no further
 unfoldable pub found_by : ℕ → List ℕ → Spot → Next
-found_by room input s = cond (has_room room (length s.text) s.number) (next_of (drop s.from input) s.from) (Line s.from)
+found_by room input s = cond (has_room room (length s.text) s.number) (next_of (drop s.from input) s.from) (Ok (Some s.from))
 
 -- whether it plays the line there
 unfoldable pub plays_line : ℕ → List ℕ → Spot → Bool
@@ -61,10 +61,10 @@ pub record Run : Type 0 where
 
 -- a bad line is told; a refusal prints nothing
 abbrev pub stop_text : ℕ → Next → List ℕ
-stop_text number (Line place) = []
-stop_text number Rest = []
-stop_text number (Bad why) = bad_line number why
-stop_text number (Refused why) = []
+stop_text number (Ok (Some place)) = []
+stop_text number (Ok None) = []
+stop_text number (Err (Bad why)) = bad_line number (log.number_of why)
+stop_text number (Err (Refused why)) = []
 
 abbrev pub stops_at : Spot → Next → Run
 stops_at s next = record { world = s.world; number = s.number; from = s.from; next = next; text = s.text ++ stop_text s.number next }
@@ -75,13 +75,20 @@ run_from room input s =
     let last = lines_played room input (length input) s in
     stops_at last (found_by room input last)
 
--- ---- `run`: the number with which a call that is lent a world's RAM and queue buffer is refused; 0 where it is not
+-- ---- `run`: why a call that is lent a world's RAM and queue buffer is refused, if it is, and its number; 0 where it is not
+abbrev pub refusal_in : World → Checked
+refusal_in w = sound_refusal w.player.chip (length w.ram) (length w.queues)
+
 unfoldable pub refused_by : World → ℕ
-refused_by w = get_or (number_of (sound_refusal w.player.chip (length w.ram) (length w.queues))) 0 0
+refused_by w = get_or (number_of (refusal_in w)) 0 0
 
 -- where calls are refused, no line is looked at
+abbrev pub unless_refused : Checked → Spot → Run → Run
+unless_refused (Ok x) s run = run
+unless_refused (Err why) s run = stops_at s (Err (Refused why))
+
 unfoldable pub log_run : ℕ → List ℕ → Spot → Run
-log_run room input s = cond (eqb (refused_by s.world) 0) (run_from room input s) (stops_at s (Refused (refused_by s.world)))
+log_run room input s = unless_refused (refusal_in s.world) s (run_from room input s)
 
 abbrev pub ran_as : Player → Next → ℕ → ℕ → ℕ → Ran
 ran_as player next from number end = record { player = player; next = next; from = from; number = number; end = end }

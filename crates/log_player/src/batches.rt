@@ -1,18 +1,19 @@
 // Lines, many at a time: the chip is handed over once for all of them.
 ghost use Rattle.std.specs.Prelude.{◌≡◌, ◌+◌, ◌*◌, ◌≤◌, ◌<◌, ◌^◌, min, true, pos, length, replicate};
 ghost use Rattle.decimal.specs.Written.{Put};
+ghost use Rattle.sizes.specs.Sizes.{stems_per_frame};
 ghost use Rattle.sides.specs.Sides.{frames_in, wrapping, added_to};
 ghost use Rattle.frames.specs.Listing.{frames_asked};
 ghost use Rattle.log_player.specs.Worlds.{world};
 ghost use Rattle.log_player.specs.Runs.{refused_by};
-ghost use Rattle.log_player.specs.Batches.{call_made, listed_call, shown_line, calls_shown, Short, Gathers, NoLine, Silent, PlaysLines, Batches};
+ghost use Rattle.log_player.specs.Batches.{call_made, line_call, listed_call, shown_line, calls_shown, Short, Gathers, NoLine, Silent, PlaysLines, Batches};
 
 use crate::steps::line_end;
 use crate::{Batch, Gathered, ListedCall, Played, Player, ROOM};
 use frames::{
     CLOCK, PEEK_REGISTER, READ_REGISTER, SET_VERSION, WRITE_PCM_RAM, WRITE_REGISTER, clocked_by,
 };
-use log_lines::Line;
+use log_lines::{Line, LineFault};
 use sizes::STEMS;
 
 // Lines, and frames, of a batch at most. A line has at most so many frames.
@@ -23,8 +24,10 @@ const FRAMES: usize = 1000;
 // Frames for which small buffers are enough.
 const FEW: usize = 64;
 
-// The kind of a call that a bad line would make.
-const NO_CALL: u8 = 6;
+// The stems of so many frames.
+const FEW_STEMS: usize = STEMS * FEW;
+
+const MOST_STEMS: usize = STEMS * FRAMES;
 
 fn call(kind: u8, address: u32, value: u8) -> ListedCall
     ensures { result ≡ call_made kind address value }
@@ -36,9 +39,8 @@ fn call(kind: u8, address: u32, value: u8) -> ListedCall
     }
 }
 
-// The call that a line makes; a bad line makes none.
-pub fn listed_call(line: Line) -> ListedCall
-    ensures { result ≡ listed_call line }
+fn line_call(line: Line) -> ListedCall
+    ensures { result ≡ line_call line }
 {
     match line {
         Line::Write { address, value } => call(WRITE_REGISTER, address, value),
@@ -47,9 +49,14 @@ pub fn listed_call(line: Line) -> ListedCall
         Line::Peek(address) => call(PEEK_REGISTER, address, 0),
         Line::Clock(frames) => call(CLOCK, frames, 0),
         Line::Version(version) => call(SET_VERSION, version, 0),
-        Line::Malformed => call(NO_CALL, 0, 0),
-        Line::Unmapped => call(NO_CALL, 0, 0),
     }
+}
+
+// The call that a line makes; a bad line makes none.
+pub fn listed_call(line: Result<Line, LineFault>) -> Result<ListedCall, LineFault>
+    ensures { result ≡ listed_call line }
+{
+    Ok(line_call(line?))
 }
 
 // The lines from `from` on as calls: at most `most` lines and 1,000 frames, and each but the first begins where at most `budget`
@@ -71,18 +78,16 @@ fn gather(
         values.new }
     ensures stops { result.count ≡ 0 → NoLine input.now from }
 {
-    let mut count = 0;
     let mut frames = 0;
     let mut place = from;
-    while count < most {
+    for count in 0..most {
         let stop = line_end(input, place);
         if input.len() <= stop {
             return gathered(count, frames, place);
         }
-        let made = listed_call(log_lines::parse(&input[place..stop]));
-        if made.kind == NO_CALL {
+        let Ok(made) = listed_call(log_lines::parse(&input[place..stop])) else {
             return gathered(count, frames, place);
-        }
+        };
         let more = frames + clocked_by(made.kind, made.address);
         if FRAMES < more {
             return gathered(count, frames, place);
@@ -94,10 +99,9 @@ fn gather(
         addresses[count] = made.address;
         values[count] = made.value;
         frames = more;
-        count += 1;
         place = stop + 1;
     }
-    gathered(count, frames, place)
+    gathered(most, frames, place)
 }
 
 fn gathered(count: usize, frames: usize, from: usize) -> Gathered
@@ -134,7 +138,7 @@ fn show_line(
     if kind == CLOCK {
         return log_lines::put_frames(out, at, left, right);
     }
-    num::least(at, out.len())
+    at.min(out.len())
 }
 
 // Puts what the calls of a list print, one after the other.
@@ -157,10 +161,9 @@ fn show(
     ensures bound { Short kinds.now addresses.now values.now left.now right.now
         (length kinds.now) }
 {
-    let mut end = num::least(at, out.len());
+    let mut end = at.min(out.len());
     let mut frame: usize = 0;
-    let mut i: usize = 0;
-    while i < kinds.len() {
+    for i in 0..kinds.len() {
         let to = frame + clocked_by(kinds[i], addresses[i]);
         end = show_line(
             kinds[i],
@@ -172,7 +175,6 @@ fn show(
             end,
         );
         frame = to;
-        i += 1;
     }
     end
 }
@@ -188,10 +190,10 @@ fn hear(stems: &[i16], others: &[i16], silent: bool, left: &mut [i32], right: &m
         stems.now others.now 1 0 right.old }
 {
     if silent {
-        sides::add_i32(stems, &others[..0], left, right, 0);
+        sides::add(stems, &others[..0], left, right, 0);
         return;
     }
-    sides::add_i32(stems, others, left, right, 0);
+    sides::add(stems, others, left, right, 0);
 }
 
 impl Player {
@@ -239,7 +241,8 @@ impl Player {
         Played { player, end }
     }
 
-    fn play_few(
+    // The same over buffers of its own: for N frames, whose stems are S.
+    fn play_within<const N: usize, const S: usize>(
         self,
         kinds: &[u8],
         addresses: &[u32],
@@ -252,53 +255,16 @@ impl Player {
     ) -> Played
         requires fact_1 { refused_by (world self ram.old queues.old) ≡ 0 }
         requires fact_2 { (length addresses.now ≡ length kinds.now) × (length values.old ≡ length kinds.now)
-            × (frames ≡ frames_asked kinds.now addresses.now 0 (length kinds.now)) × (frames ≤ 64) }
+            × (frames ≡ frames_asked kinds.now addresses.now 0 (length kinds.now)) × (frames ≤ N) }
+        requires fact_3 { (N ≤ 1000) × (S ≡ stems_per_frame * N) }
         ensures { PlaysLines kinds.now addresses.now values.old
             (world self ram.old queues.old) (world result.player ram.new queues.new)
             out.old out.new at result.end }
     {
-        let mut left = [0i32; FEW];
-        let mut right = [0i32; FEW];
-        let mut stems = [0i16; STEMS * FEW];
-        let mut others = [0i16; STEMS * FEW];
-        let s = STEMS * frames;
-        self.play_over(
-            kinds,
-            addresses,
-            values,
-            ram,
-            queues,
-            &mut stems[..s],
-            &mut others[..s],
-            &mut left[..frames],
-            &mut right[..frames],
-            out,
-            at,
-        )
-    }
-
-    fn play_many(
-        self,
-        kinds: &[u8],
-        addresses: &[u32],
-        values: &mut [u8],
-        frames: usize,
-        ram: &mut [u8],
-        queues: &mut [i16],
-        out: &mut [u8],
-        at: usize,
-    ) -> Played
-        requires fact_1 { refused_by (world self ram.old queues.old) ≡ 0 }
-        requires fact_2 { (length addresses.now ≡ length kinds.now) × (length values.old ≡ length kinds.now)
-            × (frames ≡ frames_asked kinds.now addresses.now 0 (length kinds.now)) × (frames ≤ 1000) }
-        ensures { PlaysLines kinds.now addresses.now values.old
-            (world self ram.old queues.old) (world result.player ram.new queues.new)
-            out.old out.new at result.end }
-    {
-        let mut left = [0i32; FRAMES];
-        let mut right = [0i32; FRAMES];
-        let mut stems = [0i16; STEMS * FRAMES];
-        let mut others = [0i16; STEMS * FRAMES];
+        let mut left = [0i32; N];
+        let mut right = [0i32; N];
+        let mut stems = [0i16; S];
+        let mut others = [0i16; S];
         let s = STEMS * frames;
         self.play_over(
             kinds,
@@ -334,9 +300,13 @@ impl Player {
             out.old out.new at result.end }
     {
         if frames <= FEW {
-            return self.play_few(kinds, addresses, values, frames, ram, queues, out, at);
+            return self.play_within::<FEW, FEW_STEMS>(
+                kinds, addresses, values, frames, ram, queues, out, at,
+            );
         }
-        self.play_many(kinds, addresses, values, frames, ram, queues, out, at)
+        self.play_within::<FRAMES, MOST_STEMS>(
+            kinds, addresses, values, frames, ram, queues, out, at,
+        )
     }
 
     // Plays lines from `from` on, of which the first is the log's line `number`, and puts what they print into out from `at` on:
@@ -356,10 +326,11 @@ impl Player {
         ensures { Batches input.now (world self ram.old queues.old) number from
             (world result.player ram.new queues.new) result.number result.from out.old out.new at result.end }
     {
+        // Kept as it is: chip_lists::play is lent three lists, so one array of calls would have to be copied into three.
         let mut kinds = [0u8; LINES];
         let mut addresses = [0u32; LINES];
         let mut values = [0u8; LINES];
-        let most = num::least(0xffff_ffff_ffff_ffff - (number as usize), LINES);
+        let most = LINES.min(usize::MAX - (number as usize));
         let budget = out.len() - at - ROOM;
         let found = gather(
             input,

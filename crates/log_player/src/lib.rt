@@ -7,8 +7,9 @@ mod runs;
 mod steps;
 
 pub use batches::listed_call;
-use s3w2::{Answer, Chip};
-pub use steps::line_end;
+use log_lines::LineFault;
+use s3w2::{Answer, Chip, Refusal};
+pub use steps::{line_end, look};
 
 // A chip, and the largest absolute frame values that it has given, ahead of the clamp.
 #[derive(Clone, Copy)]
@@ -25,15 +26,15 @@ pub struct Made {
     pub answer: Answer,
 }
 
-// What an input holds at a place: a line, and the place of the next one; no whole line; a bad line, and the number of
-// why it is one. Or the number with which the chip refuses calls over the RAM and the queue buffer that are lent to it.
-#[derive(Clone, Copy)]
-pub enum Next {
-    Line(usize),
-    Rest,
-    Bad(u64),
-    Refused(u64),
+// Why no line is played: one is bad, or the chip refuses calls over the RAM and the queue buffer that are lent to it.
+#[derive(Clone, Copy, PartialEq, Eq, Debug)]
+pub enum Stop {
+    Bad(LineFault),
+    Refused(Refusal),
 }
+
+// What an input holds at a place: a line, and the place of the next one; no whole line; or why no line is played.
+pub type Next = Result<Option<usize>, Stop>;
 
 // A player after some lines of an input: what it holds behind them, where, the number of the line there, and the place behind
 // what they have printed.

@@ -4,7 +4,7 @@ ghost use Rattle.std.proofs.lemmas.List.Edits.{sets};
 ghost use Rattle.log_player.specs.Worlds.{world};
 ghost use Rattle.log_player.specs.Runs.{has_room, spot, run_from, refused_by, log_run, ran_to};
 
-use crate::{Next, Player, ROOM, Ran};
+use crate::{Player, ROOM, Ran, Stop};
 
 // Whether there is room behind `end` for a line's text, and a number for the line behind it.
 fn has_room(length: usize, end: usize, number: u64) -> bool
@@ -49,10 +49,8 @@ impl Player {
             (spot (world self ram.old queues.old) number from [])).text ≤ length out.old }
     {
         let chip = self.chip;
-        let refusal = chip.refusal_of_sound(ram.len(), queues.len());
-        let why = refusal.number();
-        if why != 0 {
-            return self.ran(Next::Refused(why as u64), from, number, 0);
+        if let Err(refusal) = chip.refusal_of_sound(ram.len(), queues.len()) {
+            return self.ran(Err(Stop::Refused(refusal)), from, number, 0);
         }
         self.run_lines(input, from, number, ram, queues, out)
     }
@@ -98,6 +96,6 @@ impl Player {
                 return player.stop(input, place, line, out, end);
             }
         }
-        player.ran(Next::Line(place), place, line, end)
+        player.ran(Ok(Some(place)), place, line, end)
     }
 }

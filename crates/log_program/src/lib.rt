@@ -17,15 +17,22 @@ pub(crate) struct Program {
     pub saves: bool,
 }
 
-// Where a run stands: the bytes of the input buffer from `from` to before `filled` are not played yet, and begin with line
-// `number`. `going` says that it goes on, `whole` that the input has come to its end.
+// Where a run stands.
 #[derive(Clone, Copy)]
-pub(crate) struct Place {
-    pub from: usize,
-    pub filled: usize,
-    pub number: u64,
-    pub going: bool,
-    pub whole: bool,
+pub(crate) enum Place {
+    // The bytes of the input buffer from `from` to before `filled` are not played yet, and begin with line `number`.
+    Going {
+        from: usize,
+        filled: usize,
+        number: u64,
+    },
+    // The input has ended: `rest` bytes follow its last byte 10, and stand where line `number` would.
+    Ended {
+        rest: usize,
+        number: u64,
+    },
+    // It does not go on.
+    Stopped,
 }
 
 fn with_buffers(rt: &HostRuntime, program: Program, ram: &mut [u8], queues: &mut [i16]) {

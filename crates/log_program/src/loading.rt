@@ -1,45 +1,39 @@
 // A state read from standard input.
-use crate::moving::{Input, read_behind, write_refusal, written};
+use crate::moving::{read_behind, write_refusal, written};
 use crate::playing::go_on;
 use crate::{Place, Program};
 use log_player::Player;
-use log_state::{Found, LINES, Taken};
+use log_state::{Found, LINES};
 use program::say;
-use session::LineAnswer;
+use session::LineRefusal;
+use std::io::Error;
 
 // The lines of a state from before there was a second core.
 const OLD_LINES: usize = 9;
 
-// A line being looked for: the bytes of the input buffer from `from` to before `filled` follow what was read. `going` says that
-// it is looked for still, `found` that it ends before `to`.
+// A line that was found: it ends before `to`, and the bytes of the input buffer before `filled` have been read.
 #[derive(Clone, Copy)]
-struct Sought {
+struct StateLine {
     from: usize,
     to: usize,
     filled: usize,
-    going: bool,
-    found: bool,
+}
+
+// A line being looked for: the bytes of the input buffer from `from` to before `filled` follow what was read; or found; or none can be.
+#[derive(Clone, Copy)]
+enum Sought {
+    Open { from: usize, filled: usize },
+    Line(StateLine),
+    Failed,
 }
 
 impl Sought {
-    fn at(from: usize, filled: usize, going: bool) -> Sought {
-        Sought {
-            from,
-            to: 0,
-            filled,
-            going,
-            found: false,
-        }
+    fn at(from: usize, filled: usize) -> Sought {
+        Sought::Open { from, filled }
     }
 
     fn line(from: usize, to: usize, filled: usize) -> Sought {
-        Sought {
-            from,
-            to,
-            filled,
-            going: false,
-            found: true,
-        }
+        Sought::Line(StateLine { from, to, filled })
     }
 }
 
@@ -48,9 +42,9 @@ fn extend(rt: &HostRuntime, program: Program, from: usize, end: usize, input: &m
     let kept = program::keep(&mut *input, from, end);
     let read = read_behind(rt, program, input, kept);
     match read {
-        Input::More(more) => Sought::at(0, more, true),
-        Input::End => Sought::line(0, kept, kept),
-        Input::Failed => Sought::at(0, 0, false),
+        Ok(Some(more)) => Sought::at(0, more),
+        Ok(None) => Sought::line(0, kept, kept),
+        Err(_) => Sought::Failed,
     }
 }
 
@@ -66,24 +60,33 @@ fn look(
     let found = log_state::find(num::part(input, 0, filled), from, k);
     match found {
         Found::Line(behind) => Sought::line(from, behind, filled),
-        Found::Sound(behind) => Sought::at(behind, filled, true),
+        Found::Sound(behind) => Sought::at(behind, filled),
         Found::Open(end) => extend(rt, program, from, end, input),
     }
 }
 
 // Looks for line k at a place, if the run goes on there.
-fn find(rt: &HostRuntime, program: Program, k: usize, place: Place, input: &mut [u8]) -> Sought {
-    let mut line = Sought::at(place.from, place.filled, place.going);
-    let mut turns: u64 = 0xffff_ffff_ffff_ffff;
-    while 0 < turns {
-        if line.going {
-            line = look(rt, program, k, line.from, line.filled, &mut *input);
-            turns -= 1;
-        } else {
-            turns = 0;
-        }
+fn find(
+    rt: &HostRuntime,
+    program: Program,
+    k: usize,
+    place: Place,
+    input: &mut [u8],
+) -> Option<StateLine> {
+    let Place::Going { from, filled, .. } = place else {
+        return None;
+    };
+    let mut sought = Sought::at(from, filled);
+    for _ in 0..u64::MAX {
+        let Sought::Open { from, filled } = sought else {
+            break;
+        };
+        sought = look(rt, program, k, from, filled, &mut *input);
     }
-    line
+    match sought {
+        Sought::Line(line) => Some(line),
+        _ => None,
+    }
 }
 
 // Says that a state which ends behind its ninth line is of another kind.
@@ -104,60 +107,46 @@ fn tell_line(k: usize, text: &mut [u8]) {
 }
 
 // Where the input goes on behind line k, which was answered so.
-fn behind(program: Program, k: usize, line: Sought, answer: LineAnswer, text: &mut [u8]) -> Place {
-    if let LineAnswer::Done = answer {
+fn behind(
+    program: Program,
+    k: usize,
+    line: StateLine,
+    answer: Result<(), LineRefusal>,
+    text: &mut [u8],
+) -> Place {
+    if let Ok(()) = answer {
         return Place::at(line.to, line.filled, 1);
     }
     write_refusal(program, answer, &mut *text);
     tell_line(k, text);
-    Place::stopped()
-}
-
-// The same; nothing follows a line that was not found.
-fn passed(program: Program, k: usize, line: Sought, answer: LineAnswer, text: &mut [u8]) -> Place {
-    if line.found {
-        return behind(program, k, line, answer, text);
-    }
-    Place::stopped()
-}
-
-// Reads line k; one that was not found has no bytes.
-fn take(
-    program: Program,
-    player: Player,
-    k: usize,
-    line: Sought,
-    input: &[u8],
-    ram: &[u8],
-    queues: &mut [i16],
-) -> Taken {
-    let bytes = num::part(input, line.from, line.to);
-    log_state::take_line(program.stored, player, ram, queues, k, bytes)
+    Place::Stopped
 }
 
 // Reads on until the RAM, of which `have` bytes are there, is full: how many there are then.
-fn fill(rt: &HostRuntime, program: Program, ram: &mut [u8], have: usize) -> Input {
+fn fill(
+    rt: &HostRuntime,
+    program: Program,
+    ram: &mut [u8],
+    have: usize,
+) -> Result<Option<usize>, Error> {
     let mut got = have;
-    let mut turns = ram.len();
-    while 0 < turns {
+    for _ in 0..ram.len() {
         if ram.len() <= got {
-            return Input::More(got);
+            return Ok(Some(got));
         }
-        let read = read_behind(rt, program, &mut *ram, got);
-        let Input::More(more) = read else {
-            return read;
+        let Some(more) = read_behind(rt, program, &mut *ram, got)? else {
+            return Ok(None);
         };
         got = more;
-        turns -= 1;
     }
-    Input::More(got)
+    Ok(Some(got))
 }
 
 // Prints that the input ends before the RAM does.
 fn cut_short(program: Program, text: &mut [u8]) -> Place {
     let end = log_state::put_short(&mut *text, 0);
     written(program, text, end);
-    Place::stopped()
+    Place::Stopped
 }
 
 // Reads the RAM behind the lines, if they could be read.
@@ -169,18 +158,15 @@ fn load_ram(
     text: &mut [u8],
     ram: &mut [u8],
 ) -> Place {
-    if !place.going {
+    let Place::Going { from, filled, .. } = place else {
         return place;
-    }
-    let got = decimal::put_text(&mut *ram, 0, num::part(input, place.from, place.filled));
+    };
+    let got = decimal::put_text(&mut *ram, 0, num::part(input, from, filled));
     let read = fill(rt, program, ram, got);
     match read {
-        Input::More(_) => {
-            let from = num::least(place.from, input.len()) + got;
-            Place::at(from, place.filled, 1)
-        }
-        Input::End => cut_short(program, text),
-        Input::Failed => Place::stopped(),
+        Ok(Some(_)) => Place::at(from.min(input.len()) + got, filled, 1),
+        Ok(None) => cut_short(program, text),
+        Err(_) => Place::Stopped,
     }
 }
 
@@ -212,14 +198,14 @@ pub(crate) fn load_state(
 ) {
     let mut player = fresh;
     let mut place = begin;
-    let mut k = 0;
-    while k < LINES {
-        let line = find(rt, program, k, place, &mut *input);
-        let taken = take(program, player, k, line, &*input, &*ram, &mut *queues);
-        let answer = taken.answer;
+    for k in 0..LINES {
+        let Some(line) = find(rt, program, k, place, &mut *input) else {
+            return;
+        };
+        let bytes = num::part(&*input, line.from, line.to);
+        let taken = log_state::take_line(program.stored, player, &*ram, &mut *queues, k, bytes);
         player = taken.player;
-        place = passed(program, k, line, answer, &mut *text);
-        k += 1;
+        place = behind(program, k, line, taken.answer, &mut *text);
     }
     play_behind(rt, program, player, place, input, text, ram, queues);
 }

@@ -1,8 +1,8 @@
 // What is said where standard input or standard output fails.
 use crate::Program;
-pub(crate) use program::Input;
 use program::{STDOUT, say};
-use session::LineAnswer;
+use session::LineRefusal;
+use std::io::Error;
 
 pub(crate) fn complain(program: Program, reason: &[u8]) {
     if program.loads {
@@ -25,7 +25,11 @@ pub(crate) fn written(program: Program, text: &[u8], end: usize) -> bool {
 }
 
 // Writes why a line of a state was refused.
-pub(crate) fn write_refusal(program: Program, answer: LineAnswer, text: &mut [u8]) {
+pub(crate) fn write_refusal<T: Copy>(
+    program: Program,
+    answer: Result<T, LineRefusal>,
+    text: &mut [u8],
+) {
     let end = log_state::put_refusal(answer, &mut *text, 0);
     written(program, text, end);
 }
@@ -36,9 +40,9 @@ pub(crate) fn read_behind(
     program: Program,
     input: &mut [u8],
     kept: usize,
-) -> Input {
+) -> Result<Option<usize>, Error> {
     let read = program::read_behind(rt, input, kept);
-    if let Input::Failed = read {
+    if read.is_err() {
         complain(program, b"the input cannot be read\n");
     }
     read

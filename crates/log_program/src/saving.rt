@@ -3,11 +3,11 @@ use crate::Program;
 use crate::moving::{write_refusal, written};
 use log_player::Player;
 use log_state::LINES;
-use session::LineAnswer;
+use session::LineRefusal;
 
 // Writes a line that was put into the text, or why there is none, and answers whether the line was written.
-fn write_line(program: Program, answer: LineAnswer, text: &mut [u8]) -> bool {
-    let LineAnswer::Written(length) = answer else {
+fn write_line(program: Program, answer: Result<usize, LineRefusal>, text: &mut [u8]) -> bool {
+    let Ok(length) = answer else {
         write_refusal(program, answer, text);
         return false;
     };
@@ -28,12 +28,10 @@ fn save_line(
 }
 
 pub(crate) fn save(program: Program, player: Player, text: &mut [u8], ram: &[u8], queues: &[i16]) {
-    let mut k = 0;
-    while k < LINES {
+    for k in 0..LINES {
         if !save_line(program, player, k, &mut *text, ram, queues) {
             return;
         }
-        k += 1;
     }
     written(program, ram, ram.len());
 }

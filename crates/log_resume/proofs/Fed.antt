@@ -1,5 +1,6 @@
 -- What s3w2-save prints of the first half of a log, and the second half behind it, is read as the state from which the second half goes
 -- on. Assumes nothing.
+use Rattle.std.specs.Prelude.{Result, Ok, Err, is_ok}
 use mathlib.Core.Path.{◌≡◌, refl, sym, ap, ◌∙◌}
 use mathlib.Core.Bool.{false}
 use mathlib.Core.List.{List, [], ◌∷◌, ◌++◌, append_assoc}
@@ -11,8 +12,8 @@ use Rattle.cores.specs.Sizes.{chip_voices, chip_queues}
 use Rattle.num.proofs.Choice.{cond-by}
 use Rattle.log_lines.specs.Lines.{parsed_line, is_bad}
 use Rattle.log_lines.specs.declared.Line.{Line}
-use Rattle.log_lines.specs.declared.Line.TheVariants.{Write, WriteRam, Read, Peek, Clock, Version, Malformed, Unmapped}
-use Rattle.s3w2.specs.Answers.{is_done}
+use Rattle.log_lines.specs.declared.Line.TheVariants.{Write, WriteRam, Read, Peek, Clock, Version}
+use Rattle.log_lines.specs.declared.LineFault.{LineFault}
 use Rattle.s3w2.specs.Refusals.{ram_refusal}
 use Rattle.s3w2.specs.Ram.{write_pcm_ram_ram}
 use Rattle.plain_chip.specs.Lists.{Every}
@@ -52,16 +53,15 @@ unfolding code
 ram-same w = refl
 
 -- ---- a line leaves the RAM as long as it is
-same_size : (w : World) (l : Line) → length (after_line w l).ram ≡ length w.ram
+same_size : (w : World) (l : Result Line LineFault) → length (after_line w l).ram ≡ length w.ram
 unfolding effect_of write_pcm_ram_ram
-same_size w (Write a v) = refl
-same_size w (WriteRam a v) = cond-by (λ (r : List ℕ). length r ≡ length w.ram) (is_done (ram_refusal w.player.chip (length w.ram))) (set w.ram a v) w.ram (λ e. length-set w.ram a v) (λ e. refl)
-same_size w (Read a) = refl
-same_size w (Peek a) = refl
-same_size w (Clock n) = refl
-same_size w (Version v) = refl
-same_size w Malformed = refl
-same_size w Unmapped = refl
+same_size w (Ok (Write a v)) = refl
+same_size w (Ok (WriteRam a v)) = cond-by (λ (r : List ℕ). length r ≡ length w.ram) (is_ok (ram_refusal w.player.chip (length w.ram))) (set w.ram a v) w.ram (λ e. length-set w.ram a v) (λ e. refl)
+same_size w (Ok (Read a)) = refl
+same_size w (Ok (Peek a)) = refl
+same_size w (Ok (Clock n)) = refl
+same_size w (Ok (Version v)) = refl
+same_size w (Err why) = refl
 
 size-played : (lines : List (List ℕ)) (w : World) → length (played w lines).ram ≡ length w.ram
 size-played [] w = refl

@@ -13,7 +13,7 @@ use Rattle.session_lines.specs.Lines.{ReadVoice, voice, malformed, queued, voice
 use Rattle.voices.specs.Core.{channel_at}
 use Rattle.s3w2.specs.declared.Chip.{Chip}
 use Rattle.s3w2.specs.Chips.{core_at, core_queues}
-use Rattle.session.specs.declared.LineAnswer.TheVariants.{Done}
+use Rattle.std.specs.Prelude.{Ok}
 use Rattle.session.specs.declared.LineCalled.{LineCalled}
 use Rattle.session.specs.Heads.{read_head_called}
 use Rattle.session.specs.Voices.{table_at, line_of_voice, voice_called, voice_read_called, read_voice_called, read_voice_queues}
@@ -47,7 +47,7 @@ use Rattle.log_resume.specs.Cuts.{machine_of, fresh, loaded}
 use Rattle.log_resume.proofs.Fresh.{fresh-second}
 
 -- a line that tells of a voice is read, and the version stays
-done-of : (c : Chip) (r : ReadVoice) (ch : ℕ) (v : PlainVoice) → voice_read r ≡ texts.voice ch v → (voice_called c r).answer ≡ Done
+done-of : (c : Chip) (r : ReadVoice) (ch : ℕ) (v : PlainVoice) → voice_read r ≡ texts.voice ch v → (voice_called c r).answer ≡ Ok tt
 done-of c (voice x) ch v e = refl
 done-of c (malformed field) ch v e = absurd (let z : ◌≡◌ {A = ℕ} 0 1 = cc in omega arith)
 done-of c queued ch v e = absurd (let z : ◌≡◌ {A = ℕ} 0 1 = cc in omega arith)
@@ -89,7 +89,7 @@ module _ (w : World) (h : HeldMachine (machine_of w)) where
     unfolding voice_read_called
     called_is = sym (goes-on c q _ _ _ g.long (state-accepted c w.ram q g))
 
-    is-done : (read_voice_called c q (line i)).answer ≡ Done
+    is-done : (read_voice_called c q (line i)).answer ≡ Ok tt
     is-done =
         ap (λ (x : LineCalled). x.answer) called_is
         ∙ done-of c (read_voice c.version (line i)) i _ (ap (λ (v : SguVersion). voice_read (read_voice v (line i))) e ∙ reads i l)
@@ -117,7 +117,7 @@ module _ (w : World) (h : HeldMachine (machine_of w)) where
       let l : List ℕ = state_line chip size w.queues (suc i) in
       let is : own_line i l ≡ line i = voice-own chip size w.queues i (omega arith) in
       let rest : List ℕ = state_lines chip size w.queues n (suc (suc i)) in
-      let done : (take_line false p ram q (suc i) l).answer ≡ Done = ap (λ (t : Taken). t.answer) (take-voice false p ram q l i) ∙ ap (λ (t : List ℕ). (read_voice_called p.chip q t).answer) is ∙ is-done p.chip q k e i here in
+      let done : (take_line false p ram q (suc i) l).answer ≡ Ok tt = ap (λ (t : Taken). t.answer) (take-voice false p ram q l i) ∙ ap (λ (t : List ℕ). (read_voice_called p.chip q t).answer) is ∙ is-done p.chip q k e i here in
       let player : (take_line false p ram q (suc i) l).player ≡ with_chip p (read_voice_called p.chip q (line i)).chip = ap (λ (t : Taken). t.player) (take-voice false p ram q l i) ∙ ap (λ (t : List ℕ). with_chip p (read_voice_called p.chip q t).chip) is in
       let queues : take_line_queues false p q (suc i) l ≡ read_voice_queues p.chip q (line i) = take-voice-queues false p ram q l i ∙ ap (read_voice_queues p.chip q) is in
       ap (read_lines false (suc n) (suc i) p ram q) (append_assoc l rest more)
@@ -138,7 +138,7 @@ module _ (w : World) (h : HeldMachine (machine_of w)) where
       let is = head-line chip size w.queues in
       let rest : List ℕ = state_lines chip size w.queues chip_voices 1 in
       let called = head-called m second h s in
-      let done : (take_line false p size q 0 l).answer ≡ Done = ap (λ (t : Taken). t.answer) (take_head false p size q l) ∙ ap (λ (t : List ℕ). (read_head_called p.chip size t).answer) is ∙ ap (λ (x : LineCalled). x.answer) called in
+      let done : (take_line false p size q 0 l).answer ≡ Ok tt = ap (λ (t : Taken). t.answer) (take_head false p size q l) ∙ ap (λ (t : List ℕ). (read_head_called p.chip size t).answer) is ∙ ap (λ (x : LineCalled). x.answer) called in
       let player : (take_line false p size q 0 l).player ≡ with_chip p (headed_chip m second h s) = ap (λ (t : Taken). t.player) (take_head false p size q l) ∙ ap (λ (t : List ℕ). with_chip p (read_head_called p.chip size t).chip) is ∙ ap (λ (x : LineCalled). with_chip p x.chip) called in
       ap (read_lines false line_count 0 p size q) (append_assoc (l ++ rest) w.ram more ∙ append_assoc l rest (w.ram ++ more))
       ∙ read_next l (rest ++ (w.ram ++ more)) (state-ended chip size w.queues 0 (omega arith)) false chip_voices 0 p size q done

@@ -1,4 +1,5 @@
 -- What the players that a log reaches print and keep: an `F` line has what `clock_mixed` gives, and no peak passes 262,144. Assumes nothing.
+use Rattle.std.specs.Prelude.{Result, Ok, Err}
 use mathlib.Core.Path.{◌≡◌, sym, ap, ◌∙◌, subst}
 use mathlib.Core.List.{List, [], ◌∷◌}
 use Prim.Native.Nat.{ℕ, ◌+◌, ◌*◌, ◌/◌, ◌%◌, ◌≤◌, ◌<◌, min}
@@ -20,7 +21,8 @@ use Rattle.chip_sound.specs.Mixing.{clock_mixed_left, clock_mixed_right}
 use Rattle.s3w2.specs.Chips.{core_at, core_queues}
 use Rattle.s3w2.proofs.Fits.{FitCore, FitChip}
 use Rattle.log_lines.specs.declared.Line.{Line}
-use Rattle.log_lines.specs.declared.Line.TheVariants.{Write, WriteRam, Read, Peek, Clock, Version, Malformed, Unmapped}
+use Rattle.log_lines.specs.declared.Line.TheVariants.{Write, WriteRam, Read, Peek, Clock, Version}
+use Rattle.log_lines.specs.declared.LineFault.{LineFault}
 use Rattle.log_lines.specs.Lines.{parsed_line}
 use Rattle.plain_chip.specs.Lists.{Every}
 use Rattle.slots.specs.Good.{SlotOk}
@@ -93,13 +95,13 @@ pub record Peaks (p : Player) : Type 0 where
   pub left : p.left ≤ 262144
   pub right : p.right ≤ 262144
 
-line-peaks : (w : World) → HeldMachine (machine_of w) → (l : Line) → Peaks w.player → Peaks (after_line w l).player
+line-peaks : (w : World) → HeldMachine (machine_of w) → (l : Result Line LineFault) → Peaks w.player → Peaks (after_line w l).player
 unfolding effect_of
-line-peaks w h (Write a v) p = record { left = p.left; right = p.right }
-line-peaks w h (WriteRam a v) p = record { left = p.left; right = p.right }
-line-peaks w h (Read a) p = record { left = p.left; right = p.right }
-line-peaks w h (Peek a) p = p
-line-peaks w h (Clock n) p =
+line-peaks w h (Ok (Write a v)) p = record { left = p.left; right = p.right }
+line-peaks w h (Ok (WriteRam a v)) p = record { left = p.left; right = p.right }
+line-peaks w h (Ok (Read a)) p = record { left = p.left; right = p.right }
+line-peaks w h (Ok (Peek a)) p = p
+line-peaks w h (Ok (Clock n)) p =
     let f = fits-held (machine_of w) h in
     let q = entries-held (machine_of w) h in
     let b = h.good.cores.0.bytes.each in
@@ -107,9 +109,8 @@ line-peaks w h (Clock n) p =
       left = left-peak w.player w.ram w.queues f b q n p.left;
       right = right-peak w.player w.ram w.queues f b q n p.right;
     }
-line-peaks w h (Version v) p = record { left = p.left; right = p.right }
-line-peaks w h Malformed p = p
-line-peaks w h Unmapped p = p
+line-peaks w h (Ok (Version v)) p = record { left = p.left; right = p.right }
+line-peaks w h (Err why) p = p
 
 -- ---- THE PEAKS of a log: after lines that are not bad, one after the other
 lines-peaks : (lines : List (List ℕ)) (w : World) → HeldMachine (machine_of w) → Every Playable lines → Peaks w.player
@@ -127,7 +128,7 @@ pub frames-same : (lines : List (List ℕ)) → Every Playable lines → (n : �
     → (let w = played fresh_world lines in
     let left = clock_mixed_left w.player.chip w.ram w.queues (silent n) (silent n) in
     let right = clock_mixed_right w.player.chip w.ram w.queues (silent n) (silent n) in
-    printed w (Clock n) ≡ plain_lines left right (min (length left) (length right)))
+    printed w (Ok (Clock n)) ≡ plain_lines left right (min (length left) (length right)))
 unfolding effect_of
 frames-same lines f n =
     let w = played fresh_world lines in

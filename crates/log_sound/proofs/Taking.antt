@@ -1,55 +1,47 @@
 -- Lines taken as calls, one after the other. Assumes nothing.
+use Rattle.std.specs.Prelude.{Result, Ok, Some, None, Err}
 use mathlib.Core.Path.{◌≡◌, refl, sym, ap, subst, ◌∙◌}
 use mathlib.Core.Bool.{Bool, true, false, cond}
 use mathlib.Core.List.{List}
 use Prim.Native.Nat.{ℕ, zero, suc, ◌+◌, ◌≤◌, ◌<◌}
 use native.Mathlib.Numerals.{add-one}
 use native.Mathlib.Omega.{arith}
-use lib.Dec.{leb, ltb}
+use lib.Dec.{leb}
 use lib.ListN.{length, drop, set, length-drop, length-set}
-use borrow.Author.Tests.{eq-eqb, ne_eqb, le-leb, lt-leb, lt-ltb}
+use borrow.Author.Tests.{eq-eqb, le-leb, lt-leb}
 use Rattle.log_lines.specs.declared.Line.{Line}
-use Rattle.log_lines.specs.Lines.{parsed_line, bad_number, is_bad}
-use Rattle.log_player.specs.declared.Next.{Next}
-use Rattle.log_player.specs.declared.Next.TheVariants.{Line as Whole, Rest, Bad}
+use Rattle.log_lines.specs.declared.LineFault.{LineFault}
+use Rattle.log_lines.specs.Lines.{parsed_line}
+use Rattle.log_player.specs.Steps.{Next}
+use Rattle.log_lines.specs.declared.LineFault.TheVariants.{Malformed}
+use Rattle.log_player.specs.declared.Stop.TheVariants.{Bad}
 use Rattle.log_player.specs.Steps.{first_line, next_of}
 use Rattle.log_player.specs.Runs.{is_line}
 use Rattle.log_player.proofs.Stops.{first_short}
 use Rattle.log_player.specs.declared.ListedCall.{ListedCall}
+use Rattle.log_player.specs.Batches.{listed_call}
 use Rattle.log_sound.specs.declared.Gathered.{Gathered}
-use Rattle.log_sound.specs.Gathering.{frames_made, Gathering, gathering, call_there, takes, with_line, gathered, gathered_told}
+use Rattle.log_sound.specs.Gathering.{call_or_none, frames_made, Gathering, gathering, call_there, takes, with_line, gathered, gathered_told}
 
 -- ---- whether there is a line
-no-line : (b : Bool) (why : ℕ) → is_line (cond b Rest (Bad why)) ≡ false
+no-line : (b : Bool) (why : LineFault) → is_line (cond b (Ok None) (Err (Bad why))) ≡ false
 no-line true why = refl
 no-line false why = refl
 
 pub not-whole : (l : List ℕ) (from stop : ℕ) → stop ≡ from + length (first_line (drop from l)) → length l ≤ stop → is_line (next_of (drop from l) from) ≡ false
 unfolding next_of
 not-whole l from stop s h =
-    rw (eq-eqb (length (first_line (drop from l))) (length (drop from l)) (omega (arith, length-drop from l, first_short (drop from l)))) (no-line (leb (length (drop from l)) 16) _)
+    rw (eq-eqb (length (first_line (drop from l))) (length (drop from l)) (omega (arith, length-drop from l, first_short (drop from l)))) (no-line (leb (length (drop from l)) 16) Malformed)
 
--- by a line's number
-bad-by : (why : ℕ) (line : Line) → why ≡ bad_number line → (why ≡ 0 → ⊥) → is_bad line ≡ true
-bad-by why line e n = lt-ltb 0 (bad_number line) (above (bad_number line) (λ z. n (e ∙ z)))
-  where
-    above : (m : ℕ) → (m ≡ 0 → ⊥) → 0 < m
-    above m k = omega arith
-
-pub good-by : (why : ℕ) (line : Line) → why ≡ bad_number line → why ≡ 0 → is_bad line ≡ false
-good-by why line e z = ap (ltb 0) (sym e ∙ z)
-
-pub next-bad : (l : List ℕ) (from stop : ℕ) → stop ≡ from + length (first_line (drop from l)) → (line : Line) (why : ℕ) → from < length l → (stop ≡ length l → ⊥) → line ≡ parsed_line (first_line (drop from l)) → why ≡ bad_number line → (why ≡ 0 → ⊥)
-    → next_of (drop from l) from ≡ Bad why
-unfolding next_of
-next-bad l from stop s line why h n e m z =
-    rw (ne_eqb (length (first_line (drop from l))) (length (drop from l)) (λ q. n (omega (arith, length-drop from l))), ← e, bad-by why line m z, ← m)
-
-pub is-bad : (n : Next) (why : ℕ) → n ≡ Bad why → is_line n ≡ false
+pub is-bad : (n : Next) (why : LineFault) → n ≡ Err (Bad why) → is_line n ≡ false
 is-bad n why e = ap is_line e
 
-pub is_whole : (n : Next) (place : ℕ) → n ≡ Whole place → is_line n ≡ true
+pub is_whole : (n : Next) (place : ℕ) → n ≡ Ok (Some place) → is_line n ≡ true
 is_whole n place e = ap is_line e
+
+-- the call of a good line
+pub call-is : (text : List ℕ) (parsed : Result Line LineFault) (answer : Result ListedCall LineFault) (call : ListedCall) → parsed ≡ parsed_line text → answer ≡ listed_call parsed → answer ≡ Ok call → call ≡ call_or_none (listed_call (parsed_line text))
+call-is text parsed answer call p e m = ap call_or_none (sym m ∙ e ∙ ap listed_call p)
 
 module _ (input : List ℕ) (room : ℕ) where
   -- ---- whether it is taken

@@ -1,9 +1,10 @@
 -- The lines of an input taken as calls, one after the other.
-use Rattle.std.specs.Prelude.{Bool, false, cond, List, ℕ, zero, suc, ◌+◌, leb, length, drop, set}
+use Rattle.std.specs.Prelude.{Result, Ok, Err, Bool, false, cond, List, ℕ, zero, suc, ◌+◌, leb, length, drop, set}
 use Rattle.log_lines.specs.Lines.{parsed_line}
+use Rattle.log_lines.specs.declared.LineFault.{LineFault}
 use Rattle.frames.specs.Listing.{asked_of, clocked_as}
 use Rattle.log_player.specs.declared.ListedCall.{ListedCall}
-use Rattle.log_player.specs.Batches.{listed_call}
+use Rattle.log_player.specs.Batches.{call_made, listed_call}
 use Rattle.log_player.specs.Steps.{first_line, next_of}
 use Rattle.log_player.specs.Runs.{is_line}
 use Rattle.log_sound.specs.declared.Gathered.{Gathered}
@@ -24,12 +25,17 @@ pub record Gathering : Type 0 where
 abbrev pub gathering : ℕ → ℕ → ℕ → List ℕ → List ℕ → List ℕ → Gathering
 gathering count frames from kinds addresses values = record { count = count; frames = frames; from = from; kinds = kinds; addresses = addresses; values = values }
 
+-- a bad line makes none, which kind 6 stands for
+abbrev pub call_or_none : Result ListedCall LineFault → ListedCall
+call_or_none (Ok call) = call
+call_or_none (Err why) = call_made 6 0 0
+
 module _ (input : List ℕ) (room : ℕ) where
   abbrev pub line_there : Gathering → List ℕ
   line_there g = first_line (drop g.from input)
 
   abbrev pub call_there : Gathering → ListedCall
-  call_there g = listed_call (parsed_line (line_there g))
+  call_there g = call_or_none (listed_call (parsed_line (line_there g)))
 
   -- whether the line there is taken: it is whole, it is not bad, and there is room for its frames
   unfoldable pub takes : Gathering → Bool

@@ -1,34 +1,10 @@
 // The lines of an input, taken as calls.
-ghost use Rattle.std.specs.Prelude.{◌≡◌, ◌≤◌, drop, replicate};
-ghost use Rattle.log_player.specs.Steps.{next_of};
+ghost use Rattle.std.specs.Prelude.{◌≡◌, ◌≤◌, replicate};
 ghost use Rattle.log_sound.specs.Gathering.{list_from, gathered_as, gathered_told};
 
 use crate::Gathered;
 use frames::clocked_by;
-use log_player::{Next, line_end, listed_call};
-
-// What an input holds at a place: a line that can be played, no whole line, or a bad one. No well-formed line has more than 16
-// bytes, so a rest that is longer and has no byte 10 is malformed.
-pub fn look(input: &[u8], from: usize) -> Next
-    ensures { result ≡ next_of (drop from input.now) from }
-{
-    if input.len() <= from {
-        return Next::Rest;
-    }
-    let stop = line_end(input, from);
-    if stop == input.len() {
-        if stop - from <= 16 {
-            return Next::Rest;
-        }
-        return Next::Bad(log_lines::MALFORMED as u64);
-    }
-    let line = log_lines::parse(&input[from..stop]);
-    let why = line.number();
-    if why != 0 {
-        return Next::Bad(why as u64);
-    }
-    Next::Line(stop + 1)
-}
+use log_player::{line_end, listed_call};
 
 impl Gathered {
     fn of(count: usize, frames: usize, from: usize) -> Gathered
@@ -62,19 +38,16 @@ pub(crate) fn gather(
         ≡ (list_from input.now room from kinds.old addresses.old values.old).values }
     ensures bound { (result.count ≤ 256) × (result.frames ≤ room) }
 {
-    let mut count = 0;
     let mut frames = 0;
     let mut place = from;
-    while count < 256 {
+    for count in 0..256 {
         let stop = line_end(input, place);
         if input.len() <= stop {
             return Gathered::of(count, frames, place);
         }
-        let line = log_lines::parse(&input[place..stop]);
-        if line.number() != 0 {
+        let Ok(call) = listed_call(log_lines::parse(&input[place..stop])) else {
             return Gathered::of(count, frames, place);
-        }
-        let call = listed_call(line);
+        };
         let more = clocked_by(call.kind, call.address);
         if room - frames < more {
             return Gathered::of(count, frames, place);
@@ -83,10 +56,9 @@ pub(crate) fn gather(
         addresses[count] = call.address;
         values[count] = call.value;
         frames += more;
-        count += 1;
         place = stop + 1;
     }
-    Gathered::of(count, frames, place)
+    Gathered::of(256, frames, place)
 }
 
 // The same without the calls: how many lines they are, how many frames they clock, and the place behind them.

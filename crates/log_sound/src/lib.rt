@@ -4,7 +4,8 @@
 mod gathering;
 mod playing;
 
-pub use gathering::{look, pass};
+pub use gathering::pass;
+pub use log_player::look;
 pub use playing::play;
 use s3w2::{Answer, Chip};
 

@@ -31,13 +31,14 @@ pub fn play(
         ≡ sounded_others chip input.now from ram.old queues.old stems.old others.old }
     ensures bound { (result.count ≤ 256) × (stems_per_frame * result.frames ≤ length stems.old) }
 {
+    // Kept as it is: chip_lists::play is lent three lists, so one array of calls would have to be copied into three.
     let mut kinds = [0u8; 256];
     let mut addresses = [0u32; 256];
     let mut values = [0u8; 256];
     let lines = gather(
         input,
         from,
-        num::least(stems.len(), others.len()) / STEMS,
+        stems.len().min(others.len()) / STEMS,
         &mut kinds,
         &mut addresses,
         &mut values,

@@ -7,7 +7,7 @@ use lib.IntN.{ℤ}
 use borrow.Author.Tests.{eq-eqb, ne_eqb}
 use Rattle.decimal.specs.Read.{natural_at}
 use Rattle.s3w2.specs.declared.Chip.{Chip}
-use Rattle.session.specs.declared.LineAnswer.{LineAnswer}
+use Rattle.session.specs.Answers.{LineAnswer}
 use Rattle.session.specs.declared.LineCalled.{LineCalled}
 use Rattle.session.specs.Heads.{write_head_answer, write_head_text, read_head_called}
 use Rattle.session.specs.Voices.{write_voice_answer, write_voice_text, voice_read_called, voice_read_queues}
@@ -15,7 +15,7 @@ use Rattle.log_player.specs.declared.Player.{Player}
 use Rattle.log_state.specs.declared.Taken.{Taken}
 use Rattle.log_state.specs.Lines.{put_line_answer, put_line_text, taken_by, is_natural, own_line, take_line, take_line_queues}
 
-module _ (chip : Chip) (ram : ℕ) (queues : List ℤ) (k : ℕ) (out text : List ℕ) (answer : LineAnswer) where
+module _ (chip : Chip) (ram : ℕ) (queues : List ℤ) (k : ℕ) (out text : List ℕ) (answer : LineAnswer ℕ) where
   pub head-written : k ≡ 0 → (answer ≡ write_head_answer chip ram out) × (text ≡ write_head_text chip ram out) → (answer ≡ put_line_answer chip ram queues k out) × (text ≡ put_line_text chip ram queues k out)
   unfolding put_line_answer put_line_text
   head-written e h = rw (eq-eqb k 0 e) h

@@ -1,4 +1,5 @@
 -- What a player prints is lines that are skipped before a state. Assumes nothing.
+use Rattle.std.specs.Prelude.{Result, Ok, Err}
 use mathlib.Core.Path.{◌≡◌, refl, sym, ap, ap₂, ◌∙◌}
 use mathlib.Core.Bool.{Bool, true, false, cond}
 use mathlib.Core.List.{List, [], ◌∷◌, ◌++◌, append_assoc}
@@ -10,7 +11,8 @@ use Rattle.num.specs.Integers.{clamp16}
 use Rattle.decimal.specs.Written.{render}
 use Rattle.s3w2.specs.declared.Chip.{Chip}
 use Rattle.log_lines.specs.declared.Line.{Line}
-use Rattle.log_lines.specs.declared.Line.TheVariants.{Write, WriteRam, Read, Peek, Clock, Version, Malformed, Unmapped}
+use Rattle.log_lines.specs.declared.Line.TheVariants.{Write, WriteRam, Read, Peek, Clock, Version}
+use Rattle.log_lines.specs.declared.LineFault.{LineFault}
 use Rattle.log_lines.specs.Texts.{comma_field, pair_line, frame_line, frame_lines}
 use Rattle.log_player.specs.Worlds.{World}
 use Rattle.log_player.specs.Applied.{clocked_text, effect_of, printed}
@@ -99,16 +101,15 @@ unfolding clocked_text
 clocked-skipped chip ram queues left right = frames-skipped _ _ _
 
 -- ---- what a line of a log prints
-pub printed-skipped : (w : World) (line : Line) → Skipped (printed w line)
+pub printed-skipped : (w : World) (line : Result Line LineFault) → Skipped (printed w line)
 unfolding effect_of
-printed-skipped w (Write a v) = skip-none
-printed-skipped w (WriteRam a v) = skip-none
-printed-skipped w (Read a) = pair-skipped 82 _ _ (omega arith) read-sound
-printed-skipped w (Peek a) = pair-skipped 80 _ _ (omega arith) peek-sound
-printed-skipped w (Clock n) = clocked-skipped w.player.chip w.ram w.queues _ _
-printed-skipped w (Version v) = skip-none
-printed-skipped w Malformed = skip-none
-printed-skipped w Unmapped = skip-none
+printed-skipped w (Ok (Write a v)) = skip-none
+printed-skipped w (Ok (WriteRam a v)) = skip-none
+printed-skipped w (Ok (Read a)) = pair-skipped 82 _ _ (omega arith) read-sound
+printed-skipped w (Ok (Peek a)) = pair-skipped 80 _ _ (omega arith) peek-sound
+printed-skipped w (Ok (Clock n)) = clocked-skipped w.player.chip w.ram w.queues _ _
+printed-skipped w (Ok (Version v)) = skip-none
+printed-skipped w (Err why) = skip-none
 
 -- ---- behind such lines stands what no player prints
 stays : (n : ℕ) (rest : List ℕ) → sound_line (get_or rest 0 0) 0 ≡ false → skip_lines n rest ≡ rest

@@ -5,12 +5,11 @@ use Prim.Native.Nat.{ℕ, min}
 use lib.ListN.{length}
 use Rattle.decimal.specs.Written.{Put, digits_in, decimal}
 use Rattle.decimal.proofs.Writing.{put-append, put-none}
-use Rattle.session.specs.Answers.{numbers_of}
-use Rattle.session.specs.declared.LineAnswer.{LineAnswer}
+use Rattle.session.specs.Answers.{LineAnswer, numbers_of}
 use Rattle.log_state.specs.Refusals.{refusal_line}
 
 -- one answer for another that equals it
-pub answer-as : (l m : List ℕ) (at r : ℕ) (a b : LineAnswer) → a ≡ b → Put l m at (refusal_line (numbers_of b)) r → Put l m at (refusal_line (numbers_of a)) r
+pub answer-as : {A : Type 0} (l m : List ℕ) (at r : ℕ) (a b : LineAnswer A) → a ≡ b → Put l m at (refusal_line (numbers_of b)) r → Put l m at (refusal_line (numbers_of a)) r
 answer-as l m at r a b e p = rw e p
 
 pub none-put : (l : List ℕ) (at r : ℕ) → r ≡ min at (length l) → Put l l at (refusal_line []) r

@@ -11,9 +11,7 @@ use lib.Seq.{sets, take-append_seam, drop-append_seam}
 use borrow.Author.Tests.{eq-eqb, ne_eqb, le-leb, lt-leb, lt-ltb}
 use Rattle.cores.specs.Sizes.{chip_voices, chip_queues}
 use Rattle.decimal.specs.Written.{digits_in, decimal, render}
-use Rattle.decimal.specs.Read.{natural_at}
-use Rattle.decimal.specs.declared.TakenNatural.{TakenNatural}
-use Rattle.decimal.specs.declared.TakenNatural.TheVariants.{Natural}
+use Rattle.decimal.specs.Read.{natural_at, Numeral}
 use Rattle.decimal.proofs.RoundTrip.{natural-back}
 use Rattle.line_fields.specs.Table.{is_sample, sample_of_number}
 use Rattle.line_fields.specs.Text.{field_text, part_text, parts_text, line_text, written_of, put_of}
@@ -25,9 +23,10 @@ use Rattle.session_lines.specs.Lines.{voice_text}
 use Rattle.session_lines.specs.Numbers.{state_numbers, field_numbers}
 use Rattle.s3w2.specs.Refusals.{accepts_chip}
 use Rattle.s3w2.specs.declared.Chip.{Chip}
-use Rattle.session.specs.declared.LineAnswer.{LineAnswer}
-use Rattle.session.specs.declared.LineAnswer.TheVariants.{Done, Written, RamLength, QueueBuffer, NotAccepted}
-use Rattle.session.specs.Answers.{wrote, state_accepted, with_lent_queues, with_lent_ram}
+use Rattle.std.specs.Prelude.{Ok, Err}
+use Rattle.s3w2.specs.declared.Refusal.TheVariants.{RamLength, QueueBuffer, NotAccepted}
+use Rattle.session.specs.declared.LineRefusal.TheVariants.{OfChip}
+use Rattle.session.specs.Answers.{LineAnswer, wrote, state_accepted, with_lent_queues, with_lent_ram}
 use Rattle.session.proofs.Lines.{goes-on, goes_over}
 use Rattle.session.specs.Heads.{write_head_answer, write_head_text, read_head_called}
 use Rattle.session.specs.Voices.{line_of_voice, write_voice_answer, write_voice_text, voice_read_called, voice_read_queues}
@@ -37,20 +36,21 @@ use Rattle.log_state.specs.declared.Found.TheVariants.{Line}
 use Rattle.log_state.specs.Lines.{state_line, line_count, put_line_answer, put_line_text, taken_by, is_natural, own_line, take_line, take_line_queues}
 use Rattle.log_state.specs.Loads.{front_line, behind_line, goes_on, read_lines}
 use Rattle.log_state.specs.Finding.{sound_line, found_at}
+use Rattle.std.specs.Prelude.{Some}
 
 -- ---- a line of an accepted state is written where there is room for it
 module _ (chip : Chip) (ram : ℕ) (queues : List ℤ) (r : is_ram_length ram ≡ true) (l : accepts_chip chip ram ≡ true) (a : state_accepted chip ≡ true) (q : length queues ≡ chip_queues) where
-  written : (out text : List ℕ) → length text ≤ length out → (wrote (written_of out text) ≡ Written (length text)) × (put_of out text ≡ sets out 0 text)
+  written : (out text : List ℕ) → length text ≤ length out → (wrote (written_of out text) ≡ Ok (length text)) × (put_of out text ≡ sets out 0 text)
   written out text h = rw (le-leb (length text) (length out) h) (refl, refl)
 
   by_kind : (head : Bool) (out x y : List ℕ) → length (cond head x y) ≤ length out
-      → (cond head (with_lent_ram chip ram (wrote (written_of out x)) NotAccepted RamLength) (with_lent_queues chip queues (wrote (written_of out y)) NotAccepted QueueBuffer) ≡ Written (length (cond head x y)))
+      → (cond head (with_lent_ram chip ram (wrote (written_of out x)) (Err (OfChip NotAccepted)) (Err (OfChip RamLength))) (with_lent_queues chip queues (wrote (written_of out y)) (Err (OfChip NotAccepted)) (Err (OfChip QueueBuffer))) ≡ Ok (length (cond head x y)))
       × (cond head (with_lent_ram chip ram (put_of out x) out out) (with_lent_queues chip queues (put_of out y) out out) ≡ sets out 0 (cond head x y))
   by_kind true out x y h = (sym (goes_over chip ram _ _ _ r l) ∙ (written out x h).0, sym (goes_over chip ram _ _ _ r l) ∙ (written out x h).1)
   by_kind false out x y h = (sym (goes-on chip queues _ _ _ q a) ∙ (written out y h).0, sym (goes-on chip queues _ _ _ q a) ∙ (written out y h).1)
 
   pub line-put : (k : ℕ) (out : List ℕ) → length (state_line chip ram queues k) ≤ length out
-      → (put_line_answer chip ram queues k out ≡ Written (length (state_line chip ram queues k))) × (put_line_text chip ram queues k out ≡ sets out 0 (state_line chip ram queues k))
+      → (put_line_answer chip ram queues k out ≡ Ok (length (state_line chip ram queues k))) × (put_line_text chip ram queues k out ≡ sets out 0 (state_line chip ram queues k))
   unfolding state_line put_line_answer put_line_text write_head_answer write_head_text write_voice_answer write_voice_text
   line-put k out h = by_kind (eqb k 0) out (head_text chip.version ram) (line_of_voice chip queues (k - 1)) h
 
@@ -149,12 +149,12 @@ module _ (line rest : List ℕ) (e : Ended line) where
   behind-is = ap (λ (n : ℕ). drop n (line ++ rest)) behind ∙ drop-append_seam line rest
 
   -- and one more line is read
-  pub read_next : (stored : Bool) (n k : ℕ) (p : Player) (ram : ℕ) (queues : List ℤ) → (take_line stored p ram queues k line).answer ≡ Done
+  pub read_next : (stored : Bool) (n k : ℕ) (p : Player) (ram : ℕ) (queues : List ℤ) → (take_line stored p ram queues k line).answer ≡ Ok tt
       → read_lines stored (suc n) k p ram queues (line ++ rest) ≡ read_lines stored n (suc k) (take_line stored p ram queues k line).player ram (take_line_queues stored p queues k line) rest
   unfolding read_lines
   read_next stored n k p ram queues d =
       ap₂ (λ (x y : List ℕ). goes_on (take_line stored p ram queues k x).answer (read_lines stored n (suc k) (take_line stored p ram queues k x).player ram (take_line_queues stored p queues k x) y)) front-is behind-is
-      ∙ ap (λ (a : LineAnswer). goes_on a (read_lines stored n (suc k) (take_line stored p ram queues k line).player ram (take_line_queues stored p queues k line) rest)) d
+      ∙ ap (λ (a : LineAnswer (Unit {0})). goes_on a (read_lines stored n (suc k) (take_line stored p ram queues k line).player ram (take_line_queues stored p queues k line) rest)) d
 
   found : (at k : ℕ) → sound_line (get_or (line ++ rest) 0 0) k ≡ false → found_at (line ++ rest) at k ≡ Line (at + length line)
   unfolding found_at
@@ -183,7 +183,7 @@ module _ (chip : Chip) (ram : ℕ) (queues : List ℤ) (k : ℕ) where
   state-found at rest h = found (state_line chip ram queues k) rest (state-ended h) at k (no-sound rest)
 
 -- ---- a line read as the voice's that its first field names
-first_field : (i n : ℕ) (ns : List ℕ) → i < 2 ^ 64 → natural_at (line_text (i ∷ n ∷ ns)) 0 ≡ Natural i (0 + length (decimal i))
+first_field : (i n : ℕ) (ns : List ℕ) → i < 2 ^ 64 → natural_at (line_text (i ∷ n ∷ ns)) 0 ≡ Some (i, 0 + length (decimal i))
 unfolding line_text parts_text part_text field_text is_sample
 first_field i n ns h =
     natural-back i (line_text (i ∷ n ∷ ns)) (parts_text 1 (n ∷ ns) ++ (10 ∷ [])) 0 h (append_assoc (decimal i) (parts_text 1 (n ∷ ns)) (10 ∷ [])) refl
@@ -191,7 +191,7 @@ first_field i n ns h =
 own-text : (i n : ℕ) (ns : List ℕ) → i < 2 ^ 64 → own_line i (line_text (i ∷ n ∷ ns)) ≡ line_text (i ∷ n ∷ ns)
 unfolding own_line
 own-text i n ns h =
-    ap (λ (t : TakenNatural). cond (is_natural i t) (line_text (i ∷ n ∷ ns)) []) (first_field i n ns h)
+    ap (λ (t : Numeral ℕ). cond (is_natural i t) (line_text (i ∷ n ∷ ns)) []) (first_field i n ns h)
     ∙ ap (λ (b : Bool). cond b (line_text (i ∷ n ∷ ns)) []) (eq-eqb i i refl)
 
 -- ---- the head and the voices by their lines

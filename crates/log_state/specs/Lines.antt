@@ -1,12 +1,10 @@
 -- The lines of a state, written and read.
-use Rattle.std.specs.Prelude.{Bool, false, cond, List, [], ◌++◌, ℕ, zero, suc, ◌+◌, ◌-◌, eqb, ℤ, length}
+use Rattle.std.specs.Prelude.{Bool, false, cond, List, [], ◌++◌, ℕ, zero, suc, ◌+◌, ◌-◌, eqb, ℤ, length, Some, None}
 use Rattle.cores.specs.Sizes.{chip_voices}
-use Rattle.decimal.specs.Read.{natural_at}
-use Rattle.decimal.specs.declared.TakenNatural.{TakenNatural}
-use Rattle.decimal.specs.declared.TakenNatural.TheVariants.{Natural, NoNatural}
+use Rattle.decimal.specs.Read.{natural_at, Numeral}
 use Rattle.session_lines.specs.Head.{head_text}
 use Rattle.s3w2.specs.declared.Chip.{Chip}
-use Rattle.session.specs.declared.LineAnswer.{LineAnswer}
+use Rattle.session.specs.Answers.{LineAnswer}
 use Rattle.session.specs.declared.LineCalled.{LineCalled}
 use Rattle.session.specs.Heads.{write_head_answer, write_head_text, read_head_called}
 use Rattle.session.specs.Voices.{line_of_voice, write_voice_answer, write_voice_text, voice_read_called, voice_read_queues}
@@ -33,7 +31,7 @@ state_text w = state_lines w.player.chip (length w.ram) w.queues line_count 0 ++
 
 -- ---- a line written into a buffer
 
-unfoldable pub put_line_answer : Chip → ℕ → List ℤ → ℕ → List ℕ → LineAnswer
+unfoldable pub put_line_answer : Chip → ℕ → List ℤ → ℕ → List ℕ → LineAnswer ℕ
 put_line_answer chip ram queues k out = cond (eqb k 0) (write_head_answer chip ram out) (write_voice_answer chip queues (k - 1) out)
 
 unfoldable pub put_line_text : Chip → ℕ → List ℤ → ℕ → List ℕ → List ℕ
@@ -41,9 +39,9 @@ put_line_text chip ram queues k out = cond (eqb k 0) (write_head_text chip ram o
 
 -- ---- a line read, as a stored one or as any: the peaks stay
 
-abbrev pub is_natural : ℕ → TakenNatural → Bool
-is_natural n (Natural m next) = eqb m n
-is_natural n NoNatural = false
+abbrev pub is_natural : ℕ → Numeral ℕ → Bool
+is_natural n (Some (m, next)) = eqb m n
+is_natural n None = false
 
 -- voice lines stand in order: one that does not begin with its voice's number is read as an empty one, which is malformed at field 1
 unfoldable pub own_line : ℕ → List ℕ → List ℕ

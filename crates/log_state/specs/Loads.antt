@@ -1,7 +1,7 @@
 -- A state's lines read from the front of an input, and those that a player printed before them.
-use Rattle.std.specs.Prelude.{Bool, cond, List, ℕ, zero, suc, ℤ, length, take, drop, get_or}
-use Rattle.session.specs.declared.LineAnswer.{LineAnswer}
-use Rattle.session.specs.declared.LineAnswer.TheVariants.{Done, Written, RamLength, QueueBuffer, NotAccepted, TextBuffer, Malformed, OtherLength, Queued}
+use Rattle.std.specs.Prelude.{Ok, Err, Bool, cond, List, ℕ, zero, suc, ℤ, length, take, drop, get_or}
+use Rattle.session.specs.Answers.{LineAnswer}
+use Rattle.session.specs.declared.LineRefusal.{LineRefusal}
 use Rattle.log_player.specs.declared.Player.{Player}
 use Rattle.log_player.specs.Steps.{first_line}
 use Rattle.log_state.specs.Lines.{take_line, take_line_queues}
@@ -17,18 +17,11 @@ behind_line input = drop (suc (length (first_line input))) input
 -- what reading comes to: a player with its queue buffer, and the input behind the lines; or why the first line that is turned away is so
 pub data Load : Type 0 where
   loaded : Player → List ℤ → List ℕ → Load
-  refused : LineAnswer → Load
+  refused : LineRefusal → Load
 
-abbrev pub goes_on : LineAnswer → Load → Load
-goes_on Done next = next
-goes_on (Written n) next = refused (Written n)
-goes_on RamLength next = refused RamLength
-goes_on QueueBuffer next = refused QueueBuffer
-goes_on NotAccepted next = refused NotAccepted
-goes_on TextBuffer next = refused TextBuffer
-goes_on (Malformed field) next = refused (Malformed field)
-goes_on OtherLength next = refused OtherLength
-goes_on Queued next = refused Queued
+abbrev pub goes_on : LineAnswer (Unit {0}) → Load → Load
+goes_on (Ok x) next = next
+goes_on (Err why) next = refused why
 
 -- n lines, from line k on, by a player over a RAM of some length
 unfoldable pub read_lines : Bool → ℕ → ℕ → Player → ℕ → List ℤ → List ℕ → Load

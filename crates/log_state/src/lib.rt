@@ -10,7 +10,7 @@ pub use finding::find;
 pub use lines::{put_line, take_line};
 use log_player::Player;
 pub use refusing::{put_refusal, put_short};
-use session::LineAnswer;
+use session::LineRefusal;
 
 // The lines: the head, and one for each voice.
 pub const LINES: usize = 1 + CHIP_VOICES;
@@ -19,7 +19,7 @@ pub const LINES: usize = 1 + CHIP_VOICES;
 #[derive(Clone, Copy)]
 pub struct Taken {
     pub player: Player,
-    pub answer: LineAnswer,
+    pub answer: Result<(), LineRefusal>,
 }
 
 // What an input holds at a place: a line of the state, or one that a player printed before it, and the place behind it; a line

@@ -4,12 +4,17 @@ ghost use Rattle.decimal.specs.Read.{natural_at};
 ghost use Rattle.log_state.specs.Lines.{put_line_answer, put_line_text, taken_by, is_natural, own_line, take_line, take_line_queues};
 
 use crate::Taken;
-use decimal::TakenNatural;
 use log_player::Player;
-use session::{LineAnswer, LineCalled};
+use session::{LineCalled, LineRefusal};
 
 // Writes line k at out's beginning, if there is room for it.
-pub fn put_line(player: Player, ram: &[u8], queues: &[i16], k: usize, out: &mut [u8]) -> LineAnswer
+pub fn put_line(
+    player: Player,
+    ram: &[u8],
+    queues: &[i16],
+    k: usize,
+    out: &mut [u8],
+) -> Result<usize, LineRefusal>
     ensures answer { result ≡ put_line_answer player.chip (length ram.now) queues.now k out.old }
     ensures out { out.new ≡ put_line_text player.chip (length ram.now) queues.now k out.old }
 {
@@ -41,8 +46,8 @@ fn begins_with(text: &[u8], number: usize) -> bool
 {
     let taken = decimal::take_natural(text, 0);
     match taken {
-        TakenNatural::Natural { value, next: _ } => value == (number as u64),
-        TakenNatural::NoNatural => false,
+        Some((value, _)) => value == (number as u64),
+        None => false,
     }
 }
 

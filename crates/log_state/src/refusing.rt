@@ -1,10 +1,10 @@
 // Why a state is not read: `bad`, the refusal's number and its value, each behind a comma.
 ghost use Rattle.std.specs.Prelude.{[], ◌∷◌};
 ghost use Rattle.decimal.specs.Written.{Put};
-ghost use Rattle.session.specs.Answers.{numbers_of};
+ghost use Rattle.session.specs.Answers.{refusal_numbers, numbers_of};
 ghost use Rattle.log_state.specs.Refusals.{refusal_line};
 
-use session::LineAnswer;
+use session::LineRefusal;
 
 fn put_number(out: &mut [u8], at: usize, number: u64) -> usize
     ensures { Put out.old out.new at (refusal_line (number ∷ [])) result }
@@ -23,21 +23,26 @@ fn put_malformed(out: &mut [u8], at: usize, field: usize) -> usize
     decimal::put_byte(out, second, 10)
 }
 
+fn put_reason(refusal: LineRefusal, out: &mut [u8], at: usize) -> usize
+    ensures { Put out.old out.new at (refusal_line (refusal_numbers refusal)) result }
+{
+    match refusal {
+        LineRefusal::OfChip(of_chip) => put_number(out, at, of_chip.number() as u64),
+        LineRefusal::TextBuffer => put_number(out, at, 15),
+        LineRefusal::Malformed(field) => put_malformed(out, at, field),
+        LineRefusal::OtherLength => put_number(out, at, 22),
+        LineRefusal::Queued => put_number(out, at, 23),
+    }
+}
+
 // Puts why a line was not written or read into out from `at` on, as far as there is room, and answers the place behind it, at
 // most out's end. An answer that is no refusal puts nothing.
-pub fn put_refusal(answer: LineAnswer, out: &mut [u8], at: usize) -> usize
+pub fn put_refusal<T: Copy>(answer: Result<T, LineRefusal>, out: &mut [u8], at: usize) -> usize
     ensures { Put out.old out.new at (refusal_line (numbers_of answer)) result }
 {
     match answer {
-        LineAnswer::Done => num::least(at, out.len()),
-        LineAnswer::Written(_) => num::least(at, out.len()),
-        LineAnswer::RamLength => put_number(out, at, 1),
-        LineAnswer::QueueBuffer => put_number(out, at, 2),
-        LineAnswer::NotAccepted => put_number(out, at, 3),
-        LineAnswer::TextBuffer => put_number(out, at, 15),
-        LineAnswer::Malformed(field) => put_malformed(out, at, field),
-        LineAnswer::OtherLength => put_number(out, at, 22),
-        LineAnswer::Queued => put_number(out, at, 23),
+        Ok(_) => num::least(at, out.len()),
+        Err(refusal) => put_reason(refusal, out, at),
     }
 }
 

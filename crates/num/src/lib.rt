@@ -11,18 +11,14 @@ ghost use Rattle.num.specs.Lists.{part as part_of};
 pub fn least(a: usize, b: usize) -> usize
     ensures { result ≡ min a b }
 {
-    if a < b { a } else { b }
+    a.min(b)
 }
 
 // The size of a number, without its sign.
 pub fn magnitude(x: i32) -> u32
     ensures { result ≡ nat_abs x }
 {
-    if x < 0 {
-        ((-1 - x) as u32) + 1
-    } else {
-        x as u32
-    }
+    x.unsigned_abs()
 }
 
 // A size with a sign.
@@ -38,42 +34,28 @@ pub fn with_sign(negative: bool, size: u16) -> i32
 pub fn clamp16(x: i32) -> i16
     ensures { result ≡ clamped16 x }
 {
-    if x < -32768 {
-        return -32768;
-    }
-    if 32767 < x {
-        return 32767;
-    }
-    x as i16
+    x.clamp(-32768, 32767) as i16
 }
 
 // 16 bits read as a two's complement number, and back.
 pub fn signed16(bits: u16) -> i16
     ensures { result ≡ to_z w16 bits }
 {
-    if bits < 32768 {
-        bits as i16
-    } else {
-        ((bits as i32) - 65536) as i16
-    }
+    bits.cast_signed()
 }
 
 // The 16 bits of a signed number.
 pub fn bits16(x: i16) -> u16
     ensures { result ≡ of_z w16 x }
 {
-    if x < 0 {
-        ((x as i32) + 65536) as u16
-    } else {
-        x as u16
-    }
+    x.cast_unsigned()
 }
 
 // The byte at an index, and 0 past the end.
 pub fn byte_at(s: &[u8], i: usize) -> u8
     ensures { result ≡ get_or s.now i 0 }
 {
-    if i < s.len() { s[i] } else { 0 }
+    s.get(i).copied().unwrap_or(0)
 }
 
 // The bytes from an index on: none past the end.

@@ -1,18 +1,12 @@
 -- What a read finds, and a line in a buffer. What is read is not promised: no contract of the C library's calls says it.
-use Rattle.std.specs.Prelude.{◌≡◌, ℕ, ◌<◌, ◌≤◌, min, true, false, List, length, ◌≢◌, slice_index, slice_index_or}
-use Rattle.program.specs.declared.Input.{Input}
-use Rattle.program.specs.declared.Input.TheVariants.{More, End, Failed}
+use Rattle.std.specs.Prelude.{◌≡◌, ℕ, ◌<◌, ◌≤◌, min, List, length, ◌≢◌, slice_index, slice_index_or, Option, Some, None, Result, Ok, Err}
 use Rattle.program.specs.declared.BufferLine.{BufferLine}
 
 -- what stands in a buffer of a length after a read behind its first `kept` bytes
-abbrev pub Filled : ℕ → ℕ → Input → Type 0
-Filled length kept (More n) = (min kept length ≤ n) × (n ≤ length)
-Filled length kept End = Unit {0}
-Filled length kept Failed = Unit {0}
-
--- nothing is read yet, or the input has ended
-abbrev pub no_line : BufferLine
-no_line = record { from = 0; to = 0; filled = 0; found = false }
+abbrev pub Filled : {E : Type 0} → ℕ → ℕ → Result (Option ℕ) E → Type 0
+Filled length kept (Ok (Some n)) = (min kept length ≤ n) × (n ≤ length)
+Filled length kept (Ok None) = Unit {0}
+Filled length kept (Err e) = Unit {0}
 
 -- no byte 10 from one place to before another
 abbrev pub Open : List ℕ → ℕ → ℕ → Type 0
@@ -25,5 +19,6 @@ pub record Closed (text : List ℕ) (from to filled : ℕ) : Type 0 where
   pub closing : slice_index_or text to 0 ≡ 10
   pub before : Open text from to
 
-abbrev pub LineIn : List ℕ → BufferLine → Type 0
-LineIn text line = line.found ≡ true → Closed text line.from line.to line.filled
+abbrev pub LineIn : List ℕ → Option BufferLine → Type 0
+LineIn text (Some line) = Closed text line.from line.to line.filled
+LineIn text None = Unit {0}

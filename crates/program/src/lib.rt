@@ -13,7 +13,7 @@ mod words;
 
 pub use again::{input_again, output_again};
 pub use lines::next_line;
-use std::io::Read;
+use std::io::{Error, Read};
 pub use words::{is_word, word_count};
 
 // The descriptors of standard input, standard output and standard error.
@@ -23,22 +23,14 @@ pub const STDOUT: i32 = 1;
 
 pub const STDERR: i32 = 2;
 
-// What a read finds: so many bytes stand in the buffer then; the input has ended; it cannot be read.
-#[derive(Clone, Copy)]
-pub enum Input {
-    More(usize),
-    End,
-    Failed,
-}
-
+// Kept as it is: the buffer is lent by the caller and read into again, so a line is told by its places.
 // A line in a buffer: its bytes are those from `from` to before `to`, where its closing byte 10 stands. The bytes of the buffer
-// before `filled` have been read. Where no line was found the input has ended.
+// before `filled` have been read.
 #[derive(Clone, Copy)]
 pub struct BufferLine {
     pub from: usize,
     pub to: usize,
     pub filled: usize,
-    pub found: bool,
 }
 
 // Writes a text to standard error.
@@ -47,6 +39,7 @@ pub fn say(text: &[u8]) {
 }
 
 // Writes the text's bytes before `at` to standard output if fewer than `room` are left behind them, and answers where to go on.
+#[tactic(auto, unfolding(crate::specs::Places::place_after))]
 pub fn flush(text: &[u8], at: usize, room: usize) -> usize
     ensures result { result ≡ place_after (length text.now) at room }
     ensures bound { result ≤ length text.now }
@@ -60,25 +53,30 @@ pub fn flush(text: &[u8], at: usize, room: usize) -> usize
     0
 }
 
-// Reads once, behind the first `kept` bytes. A buffer without room ends the input. A read that a signal interrupts has failed.
-pub fn read_from<R: Read>(source: &mut R, input: &mut [u8], kept: usize) -> Input
+// Reads once, behind the first `kept` bytes: how many bytes stand in the buffer then, or None where the input has ended. A buffer
+// without room ends the input. A read that a signal interrupts has failed.
+pub fn read_from<R: Read>(
+    source: &mut R,
+    input: &mut [u8],
+    kept: usize,
+) -> Result<Option<usize>, Error>
     ensures filled { Filled (length input.old) kept result }
     ensures front { take (min kept (length input.old)) input.new
         ≡ take (min kept (length input.old)) input.old }
 {
     let start = num::least(kept, input.len());
     if start == input.len() {
-        return Input::End;
+        return Ok(None);
     }
-    match source.read(&mut input[start..]) {
-        Ok(0) => Input::End,
-        Ok(got) => Input::More(start + got),
-        Err(_) => Input::Failed,
+    let got = source.read(&mut input[start..])?;
+    if got == 0 {
+        return Ok(None);
     }
+    Ok(Some(start + got))
 }
 
 // Reads once from standard input, behind the first `kept` bytes. A buffer without room ends the input.
-pub fn read_behind(rt: &HostRuntime, input: &mut [u8], kept: usize) -> Input
+pub fn read_behind(rt: &HostRuntime, input: &mut [u8], kept: usize) -> Result<Option<usize>, Error>
     ensures filled { Filled (length input.old) kept result }
     ensures front { take (min kept (length input.old)) input.new
         ≡ take (min kept (length input.old)) input.old }
@@ -91,6 +89,7 @@ pub fn read_full<R: Read>(source: &mut R, buffer: &mut [u8]) -> usize
     ensures { result ≤ length buffer.new }
 {
     let mut filled = 0;
+    // Kept as it is: no index is counted here; each turn goes on by as many bytes as were read.
     while filled < buffer.len() {
         let Ok(got) = source.read(&mut buffer[filled..]) else {
             return filled;
@@ -113,10 +112,6 @@ pub fn keep(input: &mut [u8], from: usize, to: usize) -> usize
     let end = num::least(to, input.len());
     let start = num::least(from, end);
     let count = end - start;
-    let mut i = 0;
-    while i < count {
-        input[i] = input[start + i];
-        i += 1;
-    }
+    input.copy_within(start..end, 0);
     count
 }

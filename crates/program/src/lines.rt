@@ -1,79 +1,56 @@
 // Standard input line by line.
-ghost use Rattle.std.specs.Prelude.{◌≡◌, ◌<◌, ◌≤◌, min, length, slice_index};
-ghost use Rattle.program.specs.Reading.{no_line, Open, LineIn};
+ghost use Rattle.std.specs.Prelude.{◌≡◌, ◌<◌, ◌≤◌, length, slice_index, IfSome, IfNone};
+ghost use Rattle.program.specs.Reading.{Open, LineIn};
 
-use crate::{BufferLine, Input};
+use crate::BufferLine;
 
-impl BufferLine {
-    // Nothing is read yet.
-    pub fn none() -> BufferLine
-        ensures { result ≡ no_line }
-    {
-        BufferLine {
-            from: 0,
-            to: 0,
-            filled: 0,
-            found: false,
-        }
-    }
-}
-
-// The place of the first byte 10 from a place on; the text's length where there is none.
-fn newline(text: &[u8], from: usize) -> usize
-    ensures lower_bound { (min from (length text.now) ≤ result) × (result ≤ length text.now) }
-    ensures closing { result < length text.now → slice_index text.now result ≡ 10 }
-    ensures before { Open text.now from result }
+// The place of the first byte 10 from a place on.
+fn newline(text: &[u8], from: usize) -> Option<usize>
+    ensures some { IfSome result (λ to. (from ≤ to) × (to < length text.now) × (slice_index text.now to ≡ 10)
+        × Open text.now from to) }
+    ensures none { IfNone result (Open text.now from (length text.now)) }
 {
-    let mut i = num::least(from, text.len());
-    while i < text.len() {
+    for i in from..text.len() {
         if text[i] == 10 {
-            return i;
+            return Some(i);
         }
-        i += 1;
     }
-    i
+    None
 }
 
-// The line that begins at a place of what has been read.
-fn line_at(buffer: &[u8], from: usize, filled: usize) -> BufferLine
+// The line that begins at a place of what has been read, if its end has been read.
+fn line_at(buffer: &[u8], from: usize, filled: usize) -> Option<BufferLine>
     ensures line { LineIn buffer.now result }
 {
     let read = num::least(filled, buffer.len());
-    let to = newline(&buffer[..read], from);
-    BufferLine {
+    let to = newline(&buffer[..read], from)?;
+    Some(BufferLine {
         from,
         to,
         filled: read,
-        found: to < read,
-    }
+    })
 }
 
-// The place behind a line; the buffer's beginning where there is none.
-fn behind(line: BufferLine) -> usize {
-    if line.found {
-        return std::num::wrapping_add_usize(line.to, 1);
-    }
-    0
-}
-
-// The next line of standard input behind a line of the buffer. Bytes that no line has ended are moved to the buffer's front, and
-// more is read behind them; a line that has no room in the buffer ends the input, and so does one that is not closed.
-pub fn next_line(rt: &HostRuntime, buffer: &mut [u8], before: BufferLine) -> BufferLine
+// The next line of standard input behind a line of the buffer, or the first. Bytes that no line has ended are moved to the buffer's
+// front, and more is read behind them; a line that has no room in the buffer ends the input, and so does one that is not closed.
+pub fn next_line(
+    rt: &HostRuntime,
+    buffer: &mut [u8],
+    before: Option<BufferLine>,
+) -> Option<BufferLine>
     ensures line { LineIn buffer.new result }
 {
-    let mut line = line_at(&*buffer, behind(before), before.filled);
-    let mut turns = buffer.len();
-    while 0 < turns {
-        if line.found {
-            return line;
+    let (mut from, mut filled) = match before {
+        Some(line) => (std::num::wrapping_add_usize(line.to, 1), line.filled),
+        None => (0, 0),
+    };
+    for _ in 0..buffer.len() {
+        if let Some(line) = line_at(&*buffer, from, filled) {
+            return Some(line);
         }
-        let kept = crate::keep(&mut *buffer, line.from, line.filled);
-        let read = crate::read_behind(rt, &mut *buffer, kept);
-        let Input::More(filled) = read else {
-            return BufferLine::none();
-        };
-        line = line_at(&*buffer, 0, filled);
-        turns -= 1;
+        let kept = crate::keep(&mut *buffer, from, filled);
+        filled = crate::read_behind(rt, &mut *buffer, kept).ok()??;
+        from = 0;
     }
-    line
+    line_at(&*buffer, from, filled)
 }

@@ -13,7 +13,7 @@ use lib.Seq.{get_or-set_same, get_or-set_other, drop-cons}
 use borrow.Author.Tests.{ltb-true, ne_eqb}
 use Rattle.sizes.specs.Sizes.{fifo_capacity}
 use Rattle.num.proofs.Choice.{cond-by}
-use Rattle.registers.specs.Queue.{place, set_count, set_hold, set_sub, pushed, pushed_entries, first_taken, popped, advanced, ticked, queued, plain_queue_of}
+use Rattle.registers.specs.Queue.{place, set_count, set_hold, set_sub, pushed, pushed_entries, popped, advanced, ticked, queued, plain_queue_of}
 use Rattle.registers.specs.PlainQueue.{PlainQueue, plain_pushed, plain_popped, plain_hold, plain_sub, plain_advanced, plain_ticked}
 use Rattle.registers.specs.declared.Fifo.{Fifo}
 

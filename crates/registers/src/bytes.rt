@@ -19,6 +19,7 @@ pub(crate) fn with_byte(x: u32, index: u8, value: u8) -> u32
 }
 
 // The same of a register of 16 bits.
+// Kept as it is: one function over u16 and u32 would need a trait with both conversions; this line is shorter.
 pub(crate) fn with_byte_16(x: u16, index: u8, value: u8) -> u16
     requires { index ≤ 1 }
     ensures { result ≡ with_byte index value x }

@@ -1,17 +1,17 @@
 // The control registers at their offsets.
 ghost use Rattle.std.specs.Prelude.{◌≡◌, ◌<◌};
-ghost use Rattle.registers.specs.Control.{default_registers, set_waveform, set_modulation, target_channel, write_registers};
+ghost use Rattle.registers.specs.Control.{default_registers, set_waveform, target_channel, write_registers};
 ghost use Rattle.registers.specs.Control.{modulation_byte, read_registers, accepts_registers};
 
 use crate::bytes::{byte, with_byte_16};
 use crate::{ModulationType, Registers, WaveformType};
 use version::SguVersion;
 
-impl Registers {
-    // A fresh voice's control registers.
-    pub fn default() -> Registers
-        ensures { result ≡ default_registers }
-    {
+// A fresh voice's control registers.
+impl Default for Registers {
+    ghost is_default = { λ registers. registers ≡ default_registers };
+
+    fn default() -> Registers {
         Registers {
             frequency: 0,
             waveform_type: WaveformType::Wavetable,
@@ -24,39 +24,16 @@ impl Registers {
             modulation_param_2: 0,
         }
     }
+}
 
+impl Registers {
     // The registers with another waveform.
     pub fn with_waveform(self, waveform_type: WaveformType) -> Registers
         ensures { result ≡ set_waveform self waveform_type }
     {
-        let modulation_type = self.modulation_type;
         Registers {
-            frequency: self.frequency,
             waveform_type,
-            volume: self.volume,
-            panpot: self.panpot,
-            modulation_type,
-            modulation_target: self.modulation_target,
-            modulation_targeting_mode: self.modulation_targeting_mode,
-            modulation_param_1: self.modulation_param_1,
-            modulation_param_2: self.modulation_param_2,
-        }
-    }
-
-    fn with_modulation(self, modulation_type: ModulationType, target: u8) -> Registers
-        ensures { result ≡ set_modulation self modulation_type target }
-    {
-        let waveform_type = self.waveform_type;
-        Registers {
-            frequency: self.frequency,
-            waveform_type,
-            volume: self.volume,
-            panpot: self.panpot,
-            modulation_type,
-            modulation_target: target,
-            modulation_targeting_mode: self.modulation_targeting_mode,
-            modulation_param_1: self.modulation_param_1,
-            modulation_param_2: self.modulation_param_2,
+            ..self
         }
     }
 
@@ -80,8 +57,8 @@ impl Registers {
             3 => self.volume = value,
             4 => self.panpot = value,
             5 => {
-                let modulation = ModulationType::from(value >> 3);
-                return self.with_modulation(modulation, value & 7);
+                self.modulation_type = ModulationType::from(value >> 3);
+                self.modulation_target = value & 7;
             }
             6..=7 => self.modulation_param_1 = with_byte_16(
                 self.modulation_param_1,
@@ -103,18 +80,16 @@ impl Registers {
     pub fn modulation_byte(self) -> u8
         ensures { result ≡ modulation_byte self }
     {
-        let modulation = self.modulation_type;
-        (modulation.number() << 3) | (self.modulation_target & 7)
+        (u8::from(self.modulation_type) << 3) | (self.modulation_target & 7)
     }
 
     // The byte that an offset reads.
     pub fn read(self, offset: u8) -> u8
         ensures { result ≡ read_registers self offset }
     {
-        let waveform = self.waveform_type;
         match offset {
             0..=1 => byte(self.frequency as u32, 1 - offset),
-            2 => waveform.number(),
+            2 => u8::from(self.waveform_type),
             3 => self.volume,
             4 => self.panpot,
             5 => self.modulation_byte(),
@@ -126,19 +101,12 @@ impl Registers {
     }
 
     // Whether the registers are those of an accepted state.
+    #[tactic(auto, unfolding(crate::specs::Control::accepts_registers))]
     pub fn accepts(self, version: SguVersion) -> bool
         ensures { result ≡ accepts_registers self version }
     {
-        if 7 < self.modulation_target {
-            return false;
-        }
-        if 1 < self.modulation_targeting_mode {
-            return false;
-        }
-        let waveform = self.waveform_type;
-        if waveform.number() == 5 {
-            return version.has_3ws8pna();
-        }
-        true
+        (self.modulation_target <= 7)
+            & (self.modulation_targeting_mode <= 1)
+            & ((self.waveform_type != WaveformType::FifoDac) | version.has_3ws8pna())
     }
 }

@@ -7,7 +7,7 @@ mod pcm;
 mod queue;
 mod waveforms;
 
-#[derive(Clone, Copy)]
+#[derive(Clone, Copy, Debug, PartialEq, Eq)]
 pub enum WaveformType {
     Wavetable,
     Pcm,
@@ -17,7 +17,7 @@ pub enum WaveformType {
     FifoDac,
 }
 
-#[derive(Clone, Copy)]
+#[derive(Clone, Copy, Debug, PartialEq, Eq)]
 pub enum ModulationType {
     None,
     Phase,
@@ -54,7 +54,7 @@ pub struct PcmRegisters {
 }
 
 // A voice's queue: its entries are the voice's own 2,048 of the queue buffer.
-#[derive(Clone, Copy)]
+#[derive(Clone, Copy, Default)]
 pub struct Fifo {
     pub head: usize,
     pub count: usize,

@@ -5,11 +5,11 @@ ghost use Rattle.registers.specs.Pcm.{default_pcm, write_pcm, read_pcm, accepts_
 use crate::PcmRegisters;
 use crate::bytes::{byte, with_byte};
 
-impl PcmRegisters {
-    // A fresh voice's PCM registers.
-    pub fn default() -> PcmRegisters
-        ensures { result ≡ default_pcm }
-    {
+// A fresh voice's PCM registers.
+impl Default for PcmRegisters {
+    ghost is_default = { λ registers. registers ≡ default_pcm };
+
+    fn default() -> PcmRegisters {
         PcmRegisters {
             start_addr: 0,
             end_addr: 0,
@@ -19,7 +19,9 @@ impl PcmRegisters {
             active: true,
         }
     }
+}
 
+impl PcmRegisters {
     // The registers with a byte written at an offset.
     pub fn write(mut self, offset: u8, value: u8) -> PcmRegisters
         ensures { result ≡ write_pcm self offset value }
@@ -51,18 +53,13 @@ impl PcmRegisters {
     }
 
     // Whether the registers are those of an accepted state.
+    #[tactic(auto, unfolding(crate::specs::Pcm::accepts_pcm))]
     pub fn accepts(self) -> bool
         ensures { result ≡ accepts_pcm self }
     {
-        if 7 < self.sample_control {
-            return false;
-        }
-        if 0x100_0000 <= self.start_addr {
-            return false;
-        }
-        if 0x100_0000 <= self.end_addr {
-            return false;
-        }
-        self.loop_addr < 0x100_0000
+        (self.sample_control <= 7)
+            & (self.start_addr < 0x100_0000)
+            & (self.end_addr < 0x100_0000)
+            & (self.loop_addr < 0x100_0000)
     }
 }

@@ -1,6 +1,6 @@
 // The queue of a FIFO voice: a ring over the voice's own entries, and the sample that is held.
 ghost use Rattle.std.specs.Prelude.{◌≡◌};
-ghost use Rattle.registers.specs.Queue.{default_fifo, pushed, pushed_entries, popped, advanced, ticked};
+ghost use Rattle.registers.specs.Queue.{pushed, pushed_entries, popped, advanced, ticked};
 ghost use Rattle.registers.specs.Queue.{is_quiet, allows_fifo, kept_fifo, accepts_fifo};
 
 use crate::Fifo;
@@ -8,20 +8,6 @@ use sizes::FIFO_CAPACITY;
 use version::SguVersion;
 
 impl Fifo {
-    // An empty queue.
-    pub fn default() -> Fifo
-        ensures { result ≡ default_fifo }
-    {
-        Fifo {
-            head: 0,
-            count: 0,
-            held: 0,
-            hold: 0,
-            sub: 0,
-            latch: 0,
-        }
-    }
-
     // A sample is added at the end; a full queue drops it.
     pub fn push(mut self, queue: &mut [i16], sample: i16) -> Fifo
         ensures { (result ≡ pushed self) × (queue.new ≡ pushed_entries self queue.old sample) }
@@ -83,60 +69,46 @@ impl Fifo {
     }
 
     // Whether nothing was pushed, held or latched.
+    #[tactic(auto, unfolding(crate::specs::Queue::is_quiet))]
     pub fn is_quiet(self) -> bool
         ensures { result ≡ is_quiet self }
     {
-        if self.held != 0 {
-            return false;
-        }
-        if self.hold != 0 {
-            return false;
-        }
-        if self.sub != 0 {
-            return false;
-        }
-        if self.latch != 0 {
-            return false;
-        }
-        self.count == 0
+        (self.held == 0)
+            & (self.hold == 0)
+            & (self.sub == 0)
+            & (self.latch == 0)
+            & (self.count == 0)
     }
 
     // Whether a version has such a queue: V1 and V2 have no FIFO, so nothing may be in it.
+    #[tactic(auto, unfolding(crate::specs::Queue::allows_fifo))]
     pub fn is_allowed(self, version: SguVersion) -> bool
         ensures { result ≡ allows_fifo version self }
     {
-        if version.has_3ws8pna() {
-            return true;
-        }
-        self.is_quiet()
+        version.has_3ws8pna() || self.is_quiet()
     }
 
     // What a version keeps of a queue that was stored.
+    #[tactic(auto, unfolding(crate::specs::Queue::kept_fifo))]
     pub fn kept(self, version: SguVersion) -> Fifo
         ensures { result ≡ kept_fifo version self }
     {
         if self.is_allowed(version) {
-            return self;
+            self
+        } else {
+            Fifo::default()
         }
-        Fifo::default()
     }
 
     // Whether the queue is that of an accepted state.
+    #[tactic(auto, unfolding(crate::specs::Queue::accepts_fifo, crate::specs::Queue::ranges_fifo))]
     pub fn accepts(self, version: SguVersion) -> bool
         ensures { result ≡ accepts_fifo version self }
     {
-        if FIFO_CAPACITY < self.count {
-            return false;
-        }
-        if FIFO_CAPACITY <= self.head {
-            return false;
-        }
-        if 3 < self.sub {
-            return false;
-        }
-        if 65535 < self.hold {
-            return false;
-        }
-        self.is_allowed(version)
+        (self.count <= FIFO_CAPACITY)
+            & (self.head < FIFO_CAPACITY)
+            & (self.sub <= 3)
+            & (self.hold <= 65535)
+            & self.is_allowed(version)
     }
 }

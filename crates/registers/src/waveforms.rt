@@ -6,11 +6,11 @@ ghost use Rattle.registers.specs.Waveforms.{modulation_number, has_target, is_ph
 use crate::{ModulationType, WaveformType};
 use version::SguVersion;
 
-impl WaveformType {
-    // The waveform of a register's number.
-    pub fn from(value: u8) -> WaveformType
-        ensures { result ≡ waveform_from value }
-    {
+// The waveform of a register's number.
+impl From<u8> for WaveformType {
+    ghost from_gives = { λ value waveform. waveform ≡ waveform_from value };
+
+    fn from(value: u8) -> WaveformType {
         match value {
             1 => WaveformType::Pcm,
             2 => WaveformType::Noise,
@@ -20,33 +20,23 @@ impl WaveformType {
             _ => WaveformType::Wavetable,
         }
     }
+}
 
-    // The number of a waveform.
-    pub fn number(self) -> u8
-        ensures { result ≡ waveform_number self }
-    {
-        match self {
-            WaveformType::Wavetable => 0,
-            WaveformType::Pcm => 1,
-            WaveformType::Noise => 2,
-            WaveformType::DmaPcm => 3,
-            WaveformType::Sqv4 => 4,
-            WaveformType::FifoDac => 5,
-        }
+// The number of a waveform.
+impl From<WaveformType> for u8 {
+    ghost from_gives = { λ waveform number. number ≡ waveform_number waveform };
+
+    fn from(waveform: WaveformType) -> u8 {
+        waveform as u8
     }
+}
 
+impl WaveformType {
     // Whether the voice plays a stream.
     pub fn is_sqv4(self) -> bool
         ensures { result ≡ is_sqv4 self }
     {
-        match self {
-            WaveformType::Wavetable => false,
-            WaveformType::Pcm => false,
-            WaveformType::Noise => false,
-            WaveformType::DmaPcm => false,
-            WaveformType::Sqv4 => true,
-            WaveformType::FifoDac => false,
-        }
+        self == WaveformType::Sqv4
     }
 
     // The waveform under a version: there is no FIFO before V2.1.
@@ -57,21 +47,17 @@ impl WaveformType {
             return self;
         }
         match self {
-            WaveformType::Wavetable => self,
-            WaveformType::Pcm => self,
-            WaveformType::Noise => self,
-            WaveformType::DmaPcm => self,
-            WaveformType::Sqv4 => self,
             WaveformType::FifoDac => WaveformType::Wavetable,
+            _ => self,
         }
     }
 }
 
-impl ModulationType {
-    // The modulation of a register's number.
-    pub fn from(value: u8) -> ModulationType
-        ensures { result ≡ modulation_from value }
-    {
+// The modulation of a register's number.
+impl From<u8> for ModulationType {
+    ghost from_gives = { λ value modulation. modulation ≡ modulation_from value };
+
+    fn from(value: u8) -> ModulationType {
         match value {
             1 => ModulationType::Phase,
             2 => ModulationType::Ring,
@@ -82,49 +68,35 @@ impl ModulationType {
             _ => ModulationType::None,
         }
     }
+}
 
+// The number of a modulation.
+impl From<ModulationType> for u8 {
+    ghost from_gives = { λ modulation number. number ≡ modulation_number modulation };
+
+    fn from(modulation: ModulationType) -> u8 {
+        modulation as u8
+    }
+}
+
+impl ModulationType {
     // Whether a wavetable voice looks at its target.
     pub fn has_target(self) -> bool
         ensures { result ≡ has_target self }
     {
-        match self {
-            ModulationType::None => false,
-            ModulationType::Phase => true,
-            ModulationType::Ring => true,
-            ModulationType::HardSync => true,
-            ModulationType::Window => true,
-            ModulationType::SlewRate => false,
-            ModulationType::SlewStep => false,
-        }
+        matches!(
+            self,
+            ModulationType::Phase
+                | ModulationType::Ring
+                | ModulationType::HardSync
+                | ModulationType::Window
+        )
     }
 
     // Whether the modulation is that of the phase.
     pub fn is_phase(self) -> bool
         ensures { result ≡ is_phase self }
     {
-        match self {
-            ModulationType::None => false,
-            ModulationType::Phase => true,
-            ModulationType::Ring => false,
-            ModulationType::HardSync => false,
-            ModulationType::Window => false,
-            ModulationType::SlewRate => false,
-            ModulationType::SlewStep => false,
-        }
-    }
-
-    // The number of a modulation.
-    pub fn number(self) -> u8
-        ensures { result ≡ modulation_number self }
-    {
-        match self {
-            ModulationType::None => 0,
-            ModulationType::Phase => 1,
-            ModulationType::Ring => 2,
-            ModulationType::HardSync => 3,
-            ModulationType::Window => 4,
-            ModulationType::SlewRate => 5,
-            ModulationType::SlewStep => 6,
-        }
+        self == ModulationType::Phase
     }
 }

@@ -2,6 +2,7 @@
 use mathlib.Core.Path.{◌≡◌, refl, sym}
 use mathlib.Core.Bool.{true}
 use lib.Dec.{eqb}
+use Rattle.std.specs.Prelude.{Option, Some, None, is_none}
 use lib.IntN.{ℤ, pos, nat_abs}
 use borrow.Author.Tests.{eqb-true, not-true}
 use Rattle.num.proofs.Choice.{never}
@@ -18,17 +19,13 @@ use Rattle.registers.specs.declared.Registers.{Registers}
 use Rattle.registers.specs.declared.WaveformType.{WaveformType}
 use Rattle.registers.specs.declared.WaveformType.TheVariants as waveforms
 use Rattle.stream.specs.Cache.{no_info, emptied}
-use Rattle.stream.specs.declared.Cached.{Cached}
-use Rattle.stream.specs.declared.Cached.TheVariants as cached
-use Rattle.stream.specs.declared.Held.{Held}
-use Rattle.stream.specs.declared.Held.TheVariants as held
 use Rattle.stream.specs.declared.Info.{Info}
 use Rattle.stream.specs.declared.StreamCache.{StreamCache}
 use Rattle.ticks.specs.Oscillators.{default_oscillator}
 use Rattle.ticks.specs.declared.Oscillator.{Oscillator}
 use Rattle.voice.specs.Channel.{default_channel}
 use Rattle.voice.specs.declared.Channel.{Channel}
-use Rattle.rest.specs.Rest.{is_zero, oscillator_tests, is_fresh_oscillator, fifo_tests, is_fresh_fifo, info_tests, is_no_info, holds_nothing, is_empty_half, cache_tests, is_emptied}
+use Rattle.rest.specs.Rest.{is_zero, oscillator_tests, is_fresh_oscillator, fifo_tests, is_fresh_fifo, info_tests, is_no_info, cache_tests, is_emptied}
 use Rattle.rest.specs.Rest.{pcm_tests, is_fresh_pcm, register_tests, is_fresh_registers, channel_tests, is_fresh_channel}
 use Rattle.rest.proofs.Tests.{all-at}
 
@@ -36,13 +33,9 @@ use Rattle.rest.proofs.Tests.{all-at}
 zero_is : (z : ℤ) → is_zero z ≡ true → z ≡ pos 0
 zero_is z e = no_size z (eqb-true (nat_abs z) 0 e)
 
-nothing_is : (h : Held) → holds_nothing h ≡ true → h ≡ held.Nothing
-nothing_is held.Nothing e = refl
-nothing_is (held.Is k) e = never (sym e)
-
-half_is : (h : Cached) → is_empty_half h ≡ true → h ≡ cached.Nothing
-half_is cached.Nothing e = refl
-half_is (cached.Frame f) e = never (sym e)
+none_is : {A : Type 0} (x : Option A) → is_none x ≡ true → x ≡ None
+none_is None e = refl
+none_is (Some a) e = never (sym e)
 
 wavetable-is : (w : WaveformType) → eqb (waveform_number w) 0 ≡ true → w ≡ waveforms.Wavetable
 wavetable-is waveforms.Wavetable e = refl
@@ -105,10 +98,10 @@ cache-is s e =
     let t = all-at (cache_tests s) e in
     λ i. record {
       valid = not-true s.valid (t 0) i;
-      variant = nothing_is s.variant (t 1) i;
+      variant = none_is s.variant (t 1) i;
       info = info-is s.info (t 2) i;
-      even = half_is s.even (t 3) i;
-      odd = half_is s.odd (t 4) i;
+      even = none_is s.even (t 3) i;
+      odd = none_is s.odd (t 4) i;
       next_frame = eqb-true s.next_frame 0 (t 5) i;
       decoder = record { predictor = zero_is s.decoder.predictor (t 6) i; index = eqb-true s.decoder.index 0 (t 7) i };
     }

@@ -1,15 +1,11 @@
 -- A core at rest: eight fresh channels, at the first byte of each wavetable the centre, and decoded fragments of zeros.
-use Rattle.std.specs.Prelude.{Bool, true, false, not, ◌&&◌, List, [], ◌∷◌, ℕ, zero, suc, ◌*◌, eqb, ℤ, pos, nat_abs, get_or}
+use Rattle.std.specs.Prelude.{Bool, true, false, not, ◌&&◌, List, [], ◌∷◌, ℕ, zero, suc, ◌*◌, eqb, ℤ, pos, nat_abs, get_or, is_none}
 use Rattle.sizes.specs.Sizes.{num_channels, wavetable_size}
 use Rattle.registers.specs.Control.{default_registers}
 use Rattle.registers.specs.Waveforms.{waveform_number, modulation_number}
 use Rattle.registers.specs.declared.Fifo.{Fifo}
 use Rattle.registers.specs.declared.PcmRegisters.{PcmRegisters}
 use Rattle.registers.specs.declared.Registers.{Registers}
-use Rattle.stream.specs.declared.Cached.{Cached}
-use Rattle.stream.specs.declared.Cached.TheVariants as cached
-use Rattle.stream.specs.declared.Held.{Held}
-use Rattle.stream.specs.declared.Held.TheVariants as held
 use Rattle.stream.specs.declared.Info.{Info}
 use Rattle.stream.specs.declared.StreamCache.{StreamCache}
 use Rattle.ticks.specs.Oscillators.{default_oscillator}
@@ -54,21 +50,13 @@ info_tests i = eqb i.version 0 ∷ eqb i.sample_count 0 ∷ eqb i.frame_samples 
 unfoldable pub is_no_info : Info → Bool
 is_no_info i = all_pass (info_tests i)
 
-abbrev pub holds_nothing : Held → Bool
-holds_nothing held.Nothing = true
-holds_nothing (held.Is k) = false
-
-abbrev pub is_empty_half : Cached → Bool
-is_empty_half cached.Nothing = true
-is_empty_half (cached.Frame f) = false
-
 abbrev pub cache_tests : StreamCache → List Bool
 cache_tests s =
     not s.valid
-    ∷ holds_nothing s.variant
+    ∷ is_none s.variant
     ∷ is_no_info s.info
-    ∷ is_empty_half s.even
-    ∷ is_empty_half s.odd
+    ∷ is_none s.even
+    ∷ is_none s.odd
     ∷ eqb s.next_frame 0
     ∷ is_zero s.decoder.predictor
     ∷ eqb s.decoder.index 0

@@ -1,10 +1,10 @@
 // A fresh channel, part by part. The tests of a part are one expression without branches.
 ghost use Rattle.std.specs.Prelude.{◌≡◌};
-ghost use Rattle.rest.specs.Rest.{is_zero, is_fresh_oscillator, is_fresh_fifo, holds_nothing, is_empty_half, is_no_info, is_emptied};
+ghost use Rattle.rest.specs.Rest.{is_zero, is_fresh_oscillator, is_fresh_fifo, is_no_info, is_emptied};
 ghost use Rattle.rest.specs.Rest.{is_fresh_pcm, is_fresh_registers, is_fresh_channel};
 
-use registers::{Fifo, PcmRegisters, Registers};
-use stream::{Cached, Held, Info, StreamCache};
+use registers::{Fifo, ModulationType, PcmRegisters, Registers, WaveformType};
+use stream::{Info, StreamCache};
 use ticks::Oscillator;
 use voice::Channel;
 
@@ -12,24 +12,6 @@ pub(crate) fn is_zero(x: i16) -> bool
     ensures { result ≡ is_zero x }
 {
     x == 0
-}
-
-fn holds_nothing(variant: Held) -> bool
-    ensures { result ≡ holds_nothing variant }
-{
-    match variant {
-        Held::Nothing => true,
-        Held::Is(_) => false,
-    }
-}
-
-fn is_empty_half(half: Cached) -> bool
-    ensures { result ≡ is_empty_half half }
-{
-    match half {
-        Cached::Nothing => true,
-        Cached::Frame(_) => false,
-    }
 }
 
 fn is_fresh_oscillator(o: Oscillator) -> bool
@@ -67,10 +49,10 @@ fn is_emptied(s: StreamCache) -> bool
     let odd = s.odd;
     let decoder = s.decoder;
     !s.valid
-        & holds_nothing(variant)
+        & variant.is_none()
         & is_no_info(info)
-        & is_empty_half(even)
-        & is_empty_half(odd)
+        & even.is_none()
+        & odd.is_none()
         & (s.next_frame == 0)
         & is_zero(decoder.predictor)
         & (decoder.index == 0)
@@ -87,16 +69,15 @@ fn is_fresh_pcm(p: PcmRegisters) -> bool
         & p.active
 }
 
+#[tactic(auto, unfolding(crate::specs::Rest::is_fresh_registers))]
 fn are_fresh_registers(g: Registers) -> bool
     ensures { result ≡ is_fresh_registers g }
 {
-    let waveform = g.waveform_type;
-    let modulation = g.modulation_type;
     (g.frequency == 0)
-        & (waveform.number() == 0)
+        & (g.waveform_type == WaveformType::Wavetable)
         & (g.volume == 0)
         & (g.panpot == 255)
-        & (modulation.number() == 0)
+        & (g.modulation_type == ModulationType::None)
         & (g.modulation_target == 0)
         & (g.modulation_targeting_mode == 0)
         & (g.modulation_param_1 == 0)

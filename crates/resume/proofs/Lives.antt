@@ -1,4 +1,5 @@
 -- A chip that has lived through calls and resumes, and the plain chip that ran its calls. Assumes nothing.
+use Rattle.std.specs.Prelude.{Ok}
 use mathlib.Core.Path.{◌≡◌, refl, sym, ap, ap₂, ◌∙◌}
 use mathlib.Core.List.{List, [], ◌∷◌, map}
 use Prim.Native.Nat.{ℕ}
@@ -7,7 +8,6 @@ use lib.ListN.{length, replicate}
 use Rattle.cores.specs.Sizes.{chip_voices}
 use Rattle.session_lines.specs.Head.{head_text}
 use Rattle.session.specs.declared.LineCalled.{LineCalled}
-use Rattle.session.specs.declared.LineAnswer.TheVariants as lines
 use Rattle.plain_chip.specs.Lists.{Every}
 use Rattle.slots.specs.Models.{slots, plain}
 use Rattle.plain_chip.specs.Models.{plains}
@@ -83,7 +83,7 @@ module _ (m n : Machine) (p : Plain) (s : Second m n) (l : Lived m p) where
   pub all_done : answers_of (of_chip n (reading (seen m))) ≡ replicate 17 (replies done)
   unfolding code
   all_done =
-      let e : code n (read_head (head_text m.chip.version (length m.ram))) ≡ read_by (record { chip = (headed m n l.held s).chip; answer = lines.Done }) n.ram n.queues = ap (λ (c : LineCalled). read_by c n.ram n.queues) (head-called m n l.held s) in
+      let e : code n (read_head (head_text m.chip.version (length m.ram))) ≡ read_by (record { chip = (headed m n l.held s).chip; answer = Ok tt }) n.ram n.queues = ap (λ (c : LineCalled). read_by c n.ram n.queues) (head-called m n l.held s) in
       ap₂ (λ (a : CallAnswer) (x : Machine). a ∷ answers_of (of_chip x (map read_voice (seen m).lines))) (ap (λ (r : Outcome Machine CallAnswer). r.answer) e) (ap (λ (r : Outcome Machine CallAnswer). r.next) e)
       ∙ ap (λ (l : List CallAnswer). replies done ∷ l) (lines-done (headed m n l.held s) (headed-held m n l.held s) refl)
 

@@ -1,4 +1,5 @@
 -- DEMAND 3: a chip stopped anywhere in a list of calls and resumed from its session text, and the plain chip. Assumes nothing.
+use Rattle.std.specs.Prelude.{Ok, Err, is_ok}
 use mathlib.Core.Path.{◌≡◌, sym, ap, ◌∙◌, subst}
 use mathlib.Core.Bool.{true, cond}
 use mathlib.Core.List.{List}
@@ -9,8 +10,7 @@ use Rattle.cores.specs.Sizes.{chip_queues}
 use Rattle.tone.specs.Pcm.{is_ram_length}
 use Rattle.version.specs.declared.SguVersion.{SguVersion}
 use Rattle.registers.specs.PlainQueue.{FitEntries}
-use Rattle.s3w2.specs.declared.Answer.TheVariants.{Done, RamLength}
-use Rattle.s3w2.specs.Answers.{is_done}
+use Rattle.s3w2.specs.declared.Refusal.TheVariants.{RamLength}
 use Rattle.s3w2.specs.Chips.{fresh_chip}
 use Rattle.s3w2.specs.Fresh.{made_called, made_ram}
 use Rattle.s3w2.specs.Refusals.{refusal}
@@ -28,7 +28,7 @@ use Rattle.resume.proofs.Lives.{Lived, lived-after, lived-trace, lived-resume, s
 -- what `with_version` makes over a RAM of an allowed length
 made-fresh : (version : SguVersion) (ram : List ℕ) (queues : List ℤ) → is_ram_length (length ram) ≡ true → made version ram queues ≡ record { chip = fresh_chip version; ram = replicate (length ram) 0; queues = queues }
 unfolding made_called made_ram refusal
-made-fresh version ram queues e = λ i. record { chip = fresh_chip version; ram = cond (is_done (cond (e i) Done RamLength)) (replicate (length ram) 0) ram; queues = queues }
+made-fresh version ram queues e = λ i. record { chip = fresh_chip version; ram = cond (is_ok (cond (e i) (Ok tt) (Err RamLength))) (replicate (length ram) 0) ram; queues = queues }
 
 -- it is a fresh plain chip
 made-lived : (version : SguVersion) (ram : List ℕ) (queues : List ℤ) → is_ram_length (length ram) ≡ true → length queues ≡ chip_queues → FitEntries queues → Lived (made version ram queues) (fresh_plain version (length ram))

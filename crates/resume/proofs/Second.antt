@@ -1,4 +1,5 @@
 -- A second chip in any accepted state that reads a session. Assumes nothing.
+use Rattle.std.specs.Prelude.{Ok, Err}
 use mathlib.Core.Path.{◌≡◌, sym, ap, ◌∙◌, subst}
 use mathlib.Core.Bool.{true}
 use mathlib.Core.List.{List, map}
@@ -16,14 +17,14 @@ use Rattle.voices.specs.Core.{set_core_version}
 use Rattle.voices.specs.declared.Core.{Core}
 use Rattle.voices.proofs.Voices.{version-changed}
 use Rattle.s3w2.specs.declared.Chip.{Chip}
-use Rattle.s3w2.specs.declared.Answer.{Answer}
-use Rattle.s3w2.specs.declared.Answer.TheVariants.{Done}
-use Rattle.s3w2.specs.Answers.{answered, called}
+use Rattle.s3w2.specs.declared.Returned.TheVariants.{Done}
+use Rattle.s3w2.specs.Answers.{Checked, answered, called}
 use Rattle.s3w2.specs.Chips.{core_at, core_queues}
 use Rattle.s3w2.specs.Refusals.{accepts_chip}
 use Rattle.s3w2.specs.Fresh.{under_version, set_version_called}
 use Rattle.session.specs.declared.LineCalled.{LineCalled}
-use Rattle.session.specs.declared.LineAnswer.TheVariants as lines
+use Rattle.s3w2.specs.declared.Refusal.TheVariants.{RamLength, NotAccepted}
+use Rattle.session.specs.declared.LineRefusal.TheVariants.{OfChip}
 use Rattle.session.specs.Answers as answers
 use Rattle.session.specs.Heads.{head_called, read_head_called}
 use Rattle.session.proofs.Lines.{goes_over, head-sized}
@@ -74,12 +75,12 @@ module _ (first second : Machine) (h : HeldMachine first) (s : Second first seco
   abbrev size : ℕ
   size = length first.ram
 
-  pub head-called : read_head_called second.chip (length second.ram) (head_text version size) ≡ answers.line_answered headed_chip lines.Done
+  pub head-called : read_head_called second.chip (length second.ram) (head_text version size) ≡ answers.line_answered headed_chip (Ok tt)
   unfolding read_head_called set_version_called
   head-called =
-      sym (goes_over second.chip (length second.ram) (head_called second.chip (length second.ram) (heads.read_head (head_text version size))) (answers.line_answered second.chip lines.NotAccepted) (answers.line_answered second.chip lines.RamLength) allowed s.accepted)
+      sym (goes_over second.chip (length second.ram) (head_called second.chip (length second.ram) (heads.read_head (head_text version size))) (answers.line_answered second.chip (Err (OfChip NotAccepted))) (answers.line_answered second.chip (Err (OfChip RamLength))) allowed s.accepted)
       ∙ sym (head-sized second.chip (length second.ram) (head_text version size) version size (head-back version size h.allowed) (ap length (sym s.copy)))
-      ∙ ap (λ (r : Answer). answers.line_answered (called r second.chip (answered headed_chip Done)).chip lines.Done) (state-none second.chip state)
+      ∙ ap (λ (r : Checked). answers.line_answered (called r second.chip (answered headed_chip (Ok Done))).chip (Ok tt)) (state-none second.chip state)
 
   abbrev pub headed : Machine
   headed = record { chip = headed_chip; ram = second.ram; queues = second.queues }

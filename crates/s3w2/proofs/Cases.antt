@@ -1,4 +1,5 @@
 -- What the calls' definitions say where a test decides. Assumes nothing.
+use Rattle.std.specs.Prelude.{Ok, is_ok}
 use mathlib.Core.Path.{◌≡◌, refl, sym, ap, ap₂, ◌∙◌}
 use mathlib.Core.Bool.{Bool, true, false, cond}
 use Prim.Native.Nat.{ℕ, min, ◌*◌, ◌/◌, ◌%◌, ◌≤◌, ◌<◌}
@@ -11,9 +12,8 @@ use Rattle.num.proofs.Choice.{never}
 use Rattle.voices.specs.declared.Core.{Core}
 use Rattle.s3w2.specs.declared.Chip.{Chip}
 use Rattle.s3w2.specs.declared.Called.{Called}
-use Rattle.s3w2.specs.declared.Answer.{Answer}
-use Rattle.s3w2.specs.declared.Answer.TheVariants.{Byte}
-use Rattle.s3w2.specs.Answers.{is_done, answered, called, told}
+use Rattle.s3w2.specs.declared.Returned.TheVariants.{Byte}
+use Rattle.s3w2.specs.Answers.{Answer, Checked, answered, called, told}
 use Rattle.s3w2.specs.Refusals.{refusal, accepts_chip, queues_refusal}
 use Rattle.s3w2.specs.Chips.{core_at, with_core_at, with_cores}
 use Rattle.s3w2.proofs.Refused.{goes-called, goes-told}
@@ -25,7 +25,7 @@ pub record AllThere (ram queues state stems : Bool) : Type 0 where
   pub accepted : state ≡ true
   pub enough : stems ≡ true
 
-there : (ram queues state stems : Bool) → is_done (refusal ram queues state stems) ≡ true → AllThere ram queues state stems
+there : (ram queues state stems : Bool) → is_ok (refusal ram queues state stems) ≡ true → AllThere ram queues state stems
 unfolding refusal
 there true true true true h = record { allowed = refl; lent = refl; accepted = refl; enough = refl }
 there true true true false h = never (sym h)
@@ -33,11 +33,11 @@ there true true false stems h = never (sym h)
 there true false state stems h = never (sym h)
 there false queues state stems h = never (sym h)
 
-pub all_there : (ram queues state stems : Bool) (r : Answer) → r ≡ refusal ram queues state stems → is_done r ≡ true → AllThere ram queues state stems
-all_there ram queues state stems r e h = there ram queues state stems (ap is_done (sym e) ∙ h)
+pub all_there : (ram queues state stems : Bool) (r : Checked) → r ≡ refusal ram queues state stems → is_ok r ≡ true → AllThere ram queues state stems
+all_there ram queues state stems r e h = there ram queues state stems (ap is_ok (sym e) ∙ h)
 
 -- so the queue buffer has the chip's length
-pub queues-lent : (chip : Chip) (queues : ℕ) (r : Answer) → r ≡ queues_refusal chip queues → is_done r ≡ true → queues ≡ chip_queues
+pub queues-lent : (chip : Chip) (queues : ℕ) (r : Checked) → r ≡ queues_refusal chip queues → is_ok r ≡ true → queues ≡ chip_queues
 queues-lent chip queues r e h = eqb-true queues chip_queues (all_there true (eqb queues chip_queues) (accepts_chip chip ram_most) true r e h).lent
 
 -- ---- stems
@@ -72,7 +72,7 @@ pub at-core : (chip : Chip) (k : ℕ) (v : Core) → k ≤ 1 → v ≡ core_at c
 at-core chip k v h e = let m : min k 1 ≡ k = omega arith in e ∙ ap (core_at chip) m
 
 -- a call that goes on; `r` is the refusal as the code found it
-module _ (r wanted : Answer) (e : r ≡ wanted) (done : is_done r ≡ true) (k : ℕ) where
+module _ (r wanted : Checked) (e : r ≡ wanted) (done : is_ok r ≡ true) (k : ℕ) where
   module _ (chip : Chip) (y : Core) (u : Called) where
     pub changes-none : (answer : Answer) → 1 < k → u ≡ answered chip answer → u ≡ called wanted chip (answered (cond (ltb k num_cores) (with_core_at chip k y) chip) answer)
     changes-none answer h q = goes-called r wanted e chip _ u done (q ∙ ap (λ (x : Chip). answered x answer) (none_of k num_cores (with_core_at chip k y) chip h))
@@ -81,11 +81,11 @@ module _ (r wanted : Answer) (e : r ≡ wanted) (done : is_done r ≡ true) (k :
     changes answer core h q f = goes-called r wanted e chip _ u done (q ∙ ap (λ (x : Chip). answered x answer) (one-core k (with_core_at chip k y) chip _ h (ap (with_core_at chip k) f)))
 
     -- a byte read, and the core after it
-    pub reads_none : (x : ℕ) → 1 < k → u ≡ answered chip (Byte 0) → u ≡ called wanted chip (answered (cond (ltb k num_cores) (with_core_at chip k y) chip) (Byte (cond (ltb k num_cores) x 0)))
-    reads_none x h q = changes-none (Byte (cond (ltb k num_cores) x 0)) h (q ∙ ap (λ (b : ℕ). answered chip (Byte b)) (none_of k num_cores x 0 h))
+    pub reads_none : (x : ℕ) → 1 < k → u ≡ answered chip (Ok (Byte 0)) → u ≡ called wanted chip (answered (cond (ltb k num_cores) (with_core_at chip k y) chip) (Ok (Byte (cond (ltb k num_cores) x 0))))
+    reads_none x h q = changes-none (Ok (Byte (cond (ltb k num_cores) x 0))) h (q ∙ ap (λ (b : ℕ). answered chip (Ok (Byte b))) (none_of k num_cores x 0 h))
 
-    pub reads : (x : ℕ) (core : Core) (b : ℕ) → k ≤ 1 → u ≡ answered (with_core_at chip k core) (Byte b) → core ≡ y → b ≡ x → u ≡ called wanted chip (answered (cond (ltb k num_cores) (with_core_at chip k y) chip) (Byte (cond (ltb k num_cores) x 0)))
-    reads x core b h q f g = changes (Byte (cond (ltb k num_cores) x 0)) core h (q ∙ ap (λ (b : ℕ). answered (with_core_at chip k core) (Byte b)) (one-core k x 0 b h g)) f
+    pub reads : (x : ℕ) (core : Core) (b : ℕ) → k ≤ 1 → u ≡ answered (with_core_at chip k core) (Ok (Byte b)) → core ≡ y → b ≡ x → u ≡ called wanted chip (answered (cond (ltb k num_cores) (with_core_at chip k y) chip) (Ok (Byte (cond (ltb k num_cores) x 0))))
+    reads x core b h q f g = changes (Ok (Byte (cond (ltb k num_cores) x 0))) core h (q ∙ ap (λ (b : ℕ). answered (with_core_at chip k core) (Ok (Byte b))) (one-core k x 0 b h g)) f
 
   -- a call that only tells
   module _ {A : Type 0} (say : A → Answer) (x none : A) where

@@ -3,8 +3,7 @@
 ghost use Rattle.std.specs.Prelude.{◌≡◌, length};
 ghost use Rattle.s3w2.specs.Registers.{write_register_called, write_register_buffer, read_register_called, peek_register_answer};
 
-use crate::refusals::is_done;
-use crate::{Answer, Called, Chip};
+use crate::{Answer, Called, Chip, Returned};
 use cores::LAST_CORE;
 use sizes::QUEUE_BUFFER;
 
@@ -14,31 +13,29 @@ impl Chip {
         ensures called { result ≡ write_register_called self (length queues.old) core address value }
         ensures queues { queues.new ≡ write_register_buffer self queues.old core address value }
     {
-        let refusal = self.refusal_with_queues(queues.len());
-        if !is_done(refusal) {
-            return self.answers(refusal);
+        if let Err(refusal) = self.refusal_with_queues(queues.len()) {
+            return self.answers(Err(refusal));
         }
         if LAST_CORE < core {
-            return self.answers(Answer::Done);
+            return self.answers(Ok(Returned::Done));
         }
         let version = self.version;
         let voices = self.core_at(core);
         let from = core * QUEUE_BUFFER;
         let to = from + QUEUE_BUFFER;
         let next = voices.write_register(version, &mut queues[from..to], address, value);
-        self.with_core(core, next, Answer::Done)
+        self.with_core(core, next, Ok(Returned::Done))
     }
 
     // Reads a register by its address; offset 0x0A of a voice clears its phase and stream cache.
     pub fn read_register(self, core: usize, address: u32) -> Called
         ensures { result ≡ read_register_called self core address }
     {
-        let refusal = self.refusal();
-        if !is_done(refusal) {
-            return self.answers(refusal);
+        if let Err(refusal) = self.refusal() {
+            return self.answers(Err(refusal));
         }
         if LAST_CORE < core {
-            return self.answers(Answer::Byte(0));
+            return self.answers(Ok(Returned::Byte(0)));
         }
         let version = self.version;
         let voices = self.core_at(core);
@@ -46,7 +43,7 @@ impl Chip {
         self.with_core(
             core,
             voices.after_read_register(address),
-            Answer::Byte(byte),
+            Ok(Returned::Byte(byte)),
         )
     }
 
@@ -54,15 +51,12 @@ impl Chip {
     pub fn peek_register(self, core: usize, address: u32) -> Answer
         ensures { result ≡ peek_register_answer self core address }
     {
-        let refusal = self.refusal();
-        if !is_done(refusal) {
-            return refusal;
-        }
+        self.refusal()?;
         if LAST_CORE < core {
-            return Answer::Byte(0);
+            return Ok(Returned::Byte(0));
         }
         let version = self.version;
         let voices = self.core_at(core);
-        Answer::Byte(voices.peek_register(version, address))
+        Ok(Returned::Byte(voices.peek_register(version, address)))
     }
 }

@@ -6,8 +6,7 @@ ghost use Rattle.s3w2.specs.Fresh.{made_called, made_ram, set_version_called, re
 ghost use Rattle.s3w2.specs.Chips.{core_at, with_core_at, with_cores, zeroed};
 ghost use Rattle.s3w2.specs.Answers.{answered};
 
-use crate::refusals::is_done;
-use crate::{Answer, Called, Chip};
+use crate::{Answer, Called, Chip, Refusal, Returned};
 use cores::LAST_CORE;
 use version::SguVersion;
 use voices::Core;
@@ -15,11 +14,7 @@ use voices::Core;
 fn zero(ram: &mut [u8])
     ensures { ram.new ≡ zeroed ram.old }
 {
-    let mut i = 0;
-    while i < ram.len() {
-        ram[i] = 0;
-        i += 1;
-    }
+    ram.fill(0);
 }
 
 impl Chip {
@@ -68,10 +63,10 @@ impl Chip {
             cores: [Core::default(), Core::default()],
         };
         if !tone::is_ram_length(ram.len()) {
-            return chip.answers(Answer::RamLength);
+            return chip.answers(Err(Refusal::RamLength));
         }
         zero(ram);
-        chip.answers(Answer::Done)
+        chip.answers(Ok(Returned::Done))
     }
 
     // A fresh V3.1 chip over a lent RAM.
@@ -94,9 +89,8 @@ impl Chip {
     pub fn set_version(self, version: SguVersion) -> Called
         ensures { result ≡ set_version_called self version }
     {
-        let refusal = self.refusal();
-        if !is_done(refusal) {
-            return self.answers(refusal);
+        if let Err(refusal) = self.refusal() {
+            return self.answers(Err(refusal));
         }
         let first = self.core_at(0);
         let second = self.core_at(1);
@@ -104,7 +98,7 @@ impl Chip {
             version,
             cores: [first.set_version(version), second.set_version(version)],
         };
-        chip.answers(Answer::Done)
+        chip.answers(Ok(Returned::Done))
     }
 
     // A fresh chip of the same version; the RAM is zeroed.
@@ -112,27 +106,25 @@ impl Chip {
         ensures called { result ≡ reset_called self (length ram.old) }
         ensures ram { ram.new ≡ reset_ram self ram.old }
     {
-        let refusal = self.refusal_with_ram(ram.len());
-        if !is_done(refusal) {
-            return self.answers(refusal);
+        if let Err(refusal) = self.refusal_with_ram(ram.len()) {
+            return self.answers(Err(refusal));
         }
         zero(ram);
         let chip = self.with_cores(Core::default(), Core::default());
-        chip.answers(Answer::Done)
+        chip.answers(Ok(Returned::Done))
     }
 
     // A channel above 7 is none, and so is a core above 1.
     pub fn reset_channel(self, core: usize, ch: usize) -> Called
         ensures { result ≡ reset_channel_called self core ch }
     {
-        let refusal = self.refusal();
-        if !is_done(refusal) {
-            return self.answers(refusal);
+        if let Err(refusal) = self.refusal() {
+            return self.answers(Err(refusal));
         }
         if LAST_CORE < core {
-            return self.answers(Answer::Done);
+            return self.answers(Ok(Returned::Done));
         }
         let voices = self.core_at(core);
-        self.with_core(core, voices.reset_channel(ch), Answer::Done)
+        self.with_core(core, voices.reset_channel(ch), Ok(Returned::Done))
     }
 }

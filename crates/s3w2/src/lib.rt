@@ -7,7 +7,6 @@ mod fresh;
 mod ram;
 mod refusals;
 
-pub use refusals::is_done;
 use version::SguVersion;
 use voices::Core;
 
@@ -17,9 +16,9 @@ pub struct Chip {
     pub cores: [Core; 2],
 }
 
-// What a call answers: what it gives, or why it is turned away.
-#[derive(Clone, Copy)]
-pub enum Answer {
+// What a call returns.
+#[derive(Clone, Copy, Debug, PartialEq, Eq)]
+pub enum Returned {
     Done,
     Byte(u8),
     // A tick's sample, and whether the tick turned its voice off.
@@ -28,11 +27,19 @@ pub enum Answer {
     Flag(bool),
     // The voices that some frames turned off, as a set: bit 8 k + n for channel n of core k.
     Ended(u16),
+}
+
+// Why a call is turned away.
+#[derive(Clone, Copy, Debug, PartialEq, Eq)]
+pub enum Refusal {
     RamLength,
     QueueBuffer,
     NotAccepted,
     StemBuffer,
 }
+
+// What a call answers.
+pub type Answer = Result<Returned, Refusal>;
 
 #[derive(Clone, Copy)]
 pub struct Called {

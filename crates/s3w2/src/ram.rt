@@ -2,8 +2,7 @@
 ghost use Rattle.std.specs.Prelude.{◌≡◌, length};
 ghost use Rattle.s3w2.specs.Ram.{write_pcm_ram_called, write_pcm_ram_ram, read_pcm_ram_answer};
 
-use crate::refusals::is_done;
-use crate::{Answer, Called, Chip};
+use crate::{Answer, Called, Chip, Returned};
 
 impl Chip {
     // A stream that has the byte begins anew, on either core.
@@ -11,13 +10,12 @@ impl Chip {
         ensures called { result ≡ write_pcm_ram_called self (length ram.old) address }
         ensures ram { ram.new ≡ write_pcm_ram_ram self ram.old address value }
     {
-        let refusal = self.refusal_with_ram(ram.len());
-        if !is_done(refusal) {
-            return self.answers(refusal);
+        if let Err(refusal) = self.refusal_with_ram(ram.len()) {
+            return self.answers(Err(refusal));
         }
         let at = address as usize;
         if ram.len() <= at {
-            return self.answers(Answer::Done);
+            return self.answers(Ok(Returned::Done));
         }
         ram[at] = value;
         let first = self.core_at(0);
@@ -26,17 +24,14 @@ impl Chip {
             first.after_ram_write(address),
             second.after_ram_write(address),
         );
-        chip.answers(Answer::Done)
+        chip.answers(Ok(Returned::Done))
     }
 
     // Reads a byte of the RAM.
     pub fn read_pcm_ram(self, ram: &[u8], address: u32) -> Answer
         ensures { result ≡ read_pcm_ram_answer self ram.now address }
     {
-        let refusal = self.refusal_with_ram(ram.len());
-        if !is_done(refusal) {
-            return refusal;
-        }
-        Answer::Byte(num::byte_at(ram, address as usize))
+        self.refusal_with_ram(ram.len())?;
+        Ok(Returned::Byte(num::byte_at(ram, address as usize)))
     }
 }

@@ -1,30 +1,12 @@
 // Why a call is turned away, in the order of docs/SPECIFICATION.md, section 12: RAM length, queue buffer, state, stem buffer.
 ghost use Rattle.std.specs.Prelude.{◌≡◌, eqb, ◌*◌, get_or};
 ghost use Rattle.cores.specs.Sizes.{chip_stems};
-ghost use Rattle.s3w2.specs.Answers.{is_done, number_of};
+ghost use Rattle.s3w2.specs.Answers.{refusal_number};
 ghost use Rattle.s3w2.specs.Refusals.{accepts_chip, own_refusal, ram_refusal, queues_refusal, sound_refusal, clock_refusal};
 
-use crate::{Answer, Chip};
+use crate::{Chip, Refusal};
 use cores::CHIP_QUEUES;
 use sizes::RAM_MOST;
-
-// Whether a call may go on.
-pub fn is_done(answer: Answer) -> bool
-    ensures { result ≡ is_done answer }
-{
-    match answer {
-        Answer::Done => true,
-        Answer::Byte(_) => false,
-        Answer::Sample { value: _, ended: _ } => false,
-        Answer::Count(_) => false,
-        Answer::Flag(_) => false,
-        Answer::Ended(_) => false,
-        Answer::RamLength => false,
-        Answer::QueueBuffer => false,
-        Answer::NotAccepted => false,
-        Answer::StemBuffer => false,
-    }
-}
 
 // Whether a stem buffer has 32 entries a frame.
 fn is_stem_buffer(length: usize, frames: usize) -> bool
@@ -36,22 +18,16 @@ fn is_stem_buffer(length: usize, frames: usize) -> bool
     length / 32 == frames
 }
 
-impl Answer {
-    // The number of a refusal (docs/SPECIFICATION.md, section 12); 0 where it is none.
+impl Refusal {
+    // Its number (docs/SPECIFICATION.md, section 12).
     pub fn number(self) -> u8
-        ensures { result ≡ get_or (number_of self) 0 0 }
+        ensures { result ≡ refusal_number self }
     {
         match self {
-            Answer::Done => 0,
-            Answer::Byte(_) => 0,
-            Answer::Sample { value: _, ended: _ } => 0,
-            Answer::Count(_) => 0,
-            Answer::Flag(_) => 0,
-            Answer::Ended(_) => 0,
-            Answer::RamLength => 1,
-            Answer::QueueBuffer => 2,
-            Answer::NotAccepted => 3,
-            Answer::StemBuffer => 14,
+            Refusal::RamLength => 1,
+            Refusal::QueueBuffer => 2,
+            Refusal::NotAccepted => 3,
+            Refusal::StemBuffer => 14,
         }
     }
 }
@@ -72,50 +48,56 @@ impl Chip {
 
     // A call that is lent neither RAM nor queues. No address of an accepted state is past the largest RAM, so its length
     // stands for a RAM that is not lent.
-    pub(crate) fn refusal(self) -> Answer
+    #[tactic(auto, unfolding(crate::specs::Refusals::refusal))]
+    pub fn refusal(self) -> Result<(), Refusal>
         ensures { result ≡ own_refusal self }
     {
         if !self.accepts(RAM_MOST) {
-            return Answer::NotAccepted;
+            return Err(Refusal::NotAccepted);
         }
-        Answer::Done
+        Ok(())
     }
 
-    pub(crate) fn refusal_with_ram(self, length: usize) -> Answer
+    // A call that is lent the RAM.
+    #[tactic(auto, unfolding(crate::specs::Refusals::refusal))]
+    pub fn refusal_with_ram(self, length: usize) -> Result<(), Refusal>
         ensures { result ≡ ram_refusal self length }
     {
         if !tone::is_ram_length(length) {
-            return Answer::RamLength;
+            return Err(Refusal::RamLength);
         }
         if !self.accepts(length) {
-            return Answer::NotAccepted;
+            return Err(Refusal::NotAccepted);
         }
-        Answer::Done
+        Ok(())
     }
 
-    pub(crate) fn refusal_with_queues(self, queues: usize) -> Answer
+    // A call that is lent the queue buffer.
+    #[tactic(auto, unfolding(crate::specs::Refusals::refusal))]
+    pub fn refusal_with_queues(self, queues: usize) -> Result<(), Refusal>
         ensures { result ≡ queues_refusal self queues }
     {
         if queues != CHIP_QUEUES {
-            return Answer::QueueBuffer;
+            return Err(Refusal::QueueBuffer);
         }
         self.refusal()
     }
 
     // The refusal of a call that is lent both.
-    pub fn refusal_of_sound(self, length: usize, queues: usize) -> Answer
+    #[tactic(auto, unfolding(crate::specs::Refusals::refusal))]
+    pub fn refusal_of_sound(self, length: usize, queues: usize) -> Result<(), Refusal>
         ensures { result ≡ sound_refusal self length queues }
     {
         if !tone::is_ram_length(length) {
-            return Answer::RamLength;
+            return Err(Refusal::RamLength);
         }
         if queues != CHIP_QUEUES {
-            return Answer::QueueBuffer;
+            return Err(Refusal::QueueBuffer);
         }
         if !self.accepts(length) {
-            return Answer::NotAccepted;
+            return Err(Refusal::NotAccepted);
         }
-        Answer::Done
+        Ok(())
     }
 
     // A call that is lent stems too.
@@ -125,16 +107,13 @@ impl Chip {
         queues: usize,
         frames: usize,
         stems: usize,
-    ) -> Answer
+    ) -> Result<(), Refusal>
         ensures { result ≡ clock_refusal self length queues frames stems }
     {
-        let refusal = self.refusal_of_sound(length, queues);
-        if !is_done(refusal) {
-            return refusal;
-        }
+        self.refusal_of_sound(length, queues)?;
         if !is_stem_buffer(stems, frames) {
-            return Answer::StemBuffer;
+            return Err(Refusal::StemBuffer);
         }
-        Answer::Done
+        Ok(())
     }
 }

@@ -7,13 +7,10 @@ ghost use Rattle.std.specs.Prelude.{◌≤◌};
 
 // Whether a word is given, behind the program's name.
 fn is_given(rt: &HostRuntime, name: &[u8]) -> bool {
-    let count = program::word_count(rt);
-    let mut k = 1;
-    while k < count {
+    for k in 1..program::word_count(rt) {
         if program::is_word(rt, k, name) {
             return true;
         }
-        k += 1;
     }
     false
 }

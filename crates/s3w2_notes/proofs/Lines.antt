@@ -1,13 +1,11 @@
 -- Lines put one behind the other. Assumes nothing.
-use mathlib.Core.Path.{◌≡◌}
 use mathlib.Core.List.{List, [], ◌∷◌, ◌++◌}
 use Prim.Native.Nat.{ℕ, ◌+◌}
 use native.Mathlib.Omega.{arith}
 use native.Mathlib.Numerals.{add-one}
 use lib.IntN.{ℤ}
-use lib.ListN.{length}
 use Rattle.decimal.specs.Written.{Put, decimal, render}
-use Rattle.decimal.proofs.Writing.{put-append, put-none, put-long}
+use Rattle.decimal.proofs.Writing.{put-append, put-none}
 use Rattle.s3w2_notes.specs.Lines.{sum_line, sum_of, SumLines, LinePut, LinesPut}
 
 pub line-put : (sum : ℤ) (frequency : ℕ) (l m n p q : List ℕ) (at a b c r : ℕ) → Put l m at (render sum) a → Put m n a (44 ∷ []) b → Put n p b (decimal frequency) c → Put p q c (10 ∷ []) r → Put l q at (sum_line sum frequency) r
@@ -24,6 +22,3 @@ lines_more l m n k e r before line = rw add-one (record {
   lines = SumLines.more line.frequency before.lines line.nearest;
   put = put-append l m n 0 e r before.text (sum_line (sum_of k) line.frequency) before.put line.put;
 })
-
-pub lines_long : (l m : List ℕ) (k r : ℕ) → LinesPut l m k r → length m ≡ length l
-lines_long l m k r p = put-long l m 0 r p.text p.put

@@ -66,10 +66,8 @@ fn put_lines(out: &mut [u8]) -> usize
     ensures { LinesPut out.old out.new sums result }
 {
     let mut end = 0;
-    let mut k = 0;
-    while k < notes::SUMS {
+    for k in 0..notes::SUMS {
         end = put_line(out, end, k);
-        k += 1;
     }
     end
 }

@@ -1,34 +1,35 @@
 // A line's answer.
-use crate::fields::Given;
+use crate::fields::Figures;
 use crate::{ANSWER_ROOM, Lent, fields, sounding};
 use cores::LAST_CORE;
-use s3w2::{Answer, Called, Chip};
+use s3w2::{Answer, Called, Chip, Returned};
 
 // The numbers that an answer gives, or that of its refusal.
-fn given(answer: Answer) -> Given {
+fn given(answer: Answer) -> Figures {
     match answer {
-        Answer::Done => Given {
-            numbers: [0, 0],
-            count: 0,
-        },
-        Answer::Byte(x) => fields::one(x as u64),
-        Answer::Count(x) => fields::one(x as u64),
-        Answer::Flag(x) => fields::one(fields::flag_number(x)),
-        Answer::Ended(x) => fields::one(x as u64),
-        Answer::Sample { value, ended } => Given {
-            numbers: [fields::sample_bits(value), fields::flag_number(ended)],
-            count: 2,
-        },
-        _ => fields::one(answer.number() as u64),
+        Ok(Returned::Done) => Figures::Nothing,
+        Ok(Returned::Byte(x)) => Figures::One(x as u64),
+        Ok(Returned::Count(x)) => Figures::One(x as u64),
+        Ok(Returned::Flag(x)) => Figures::One(fields::flag_number(x)),
+        Ok(Returned::Ended(x)) => Figures::One(x as u64),
+        Ok(Returned::Sample { value, ended }) => {
+            Figures::Two(fields::sample_bits(value), fields::flag_number(ended))
+        }
+        Err(refusal) => Figures::One(refusal.number() as u64),
     }
 }
 
 // What a line tells of no chip, or what its call gives.
-fn answered(answer: Answer, line: &[u64], ram: &[u8]) -> Given {
+fn answered(answer: Answer, line: &[u64], ram: &[u8]) -> Figures {
     match fields::letter(line) {
         b'A' | b'O' | b'U' | b'u' | b'K' => fields::told(line, ram),
         _ => given(answer),
     }
+}
+
+// The first of some numbers, as far as there are so many.
+fn part(numbers: &[u64], count: usize) -> &[u64] {
+    &numbers[..num::least(count, numbers.len())]
 }
 
 // Puts what a line gives, and the numbers that its frames gave, or the number of its refusal.
@@ -40,10 +41,12 @@ fn put_answer(
     ram: &[u8],
     numbers: &[u64],
 ) -> usize {
-    let refused = answer.number() != 0;
-    let count = if refused { 0 } else { sounding::count(line) };
-    let end = fields::put_given(&mut *out, at, answered(answer, line, ram), refused);
-    fields::put_numbers(out, end, numbers, count)
+    let figures = answered(answer, line, ram);
+    if answer.is_err() {
+        return fields::put_refused(out, at, figures);
+    }
+    let end = fields::put_figures(&mut *out, at, figures);
+    fields::put_numbers(out, end, part(numbers, sounding::count(line)))
 }
 
 // Puts the voice that a D line names.

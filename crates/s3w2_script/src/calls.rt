@@ -1,7 +1,7 @@
 // A line's call.
 use crate::{Lent, fields, sounding};
 use cores::LAST_CORE;
-use s3w2::{Answer, Called, Chip};
+use s3w2::{Answer, Called, Chip, Returned};
 
 // The calls that change nothing; no other letter is a call.
 fn asked(chip: Chip, core: usize, line: &[u64], ram: &[u8]) -> Answer {
@@ -15,7 +15,7 @@ fn asked(chip: Chip, core: usize, line: &[u64], ram: &[u8]) -> Answer {
         b'w' => chip.wavetable_length(core, ch),
         b'i' => chip.interpolates(core, ch),
         b'm' => chip.read_pcm_ram(ram, a),
-        _ => Answer::Done,
+        _ => Ok(Returned::Done),
     }
 }
 
@@ -42,7 +42,7 @@ fn called_alone(chip: Chip, core: usize, line: &[u64], ram: &[u8]) -> Called {
 fn write_bytes(chip: Chip, line: &[u64], ram: &mut [u8]) -> Called {
     let mut called = Called {
         chip,
-        answer: Answer::Done,
+        answer: Ok(Returned::Done),
     };
     let mut at = fields::word(line, 1);
     for i in 2..line.len() {
@@ -70,7 +70,7 @@ fn set(mut chip: Chip, core: usize, line: &[u64], queues: &mut [i16]) -> Called 
     fields::fill_queue(queues, k, line);
     Called {
         chip,
-        answer: Answer::Done,
+        answer: Ok(Returned::Done),
     }
 }
 

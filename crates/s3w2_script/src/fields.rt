@@ -11,13 +11,14 @@ mod writing;
 pub(crate) use reading::{byte, first, letter, long, parse, size, version, word};
 pub(crate) use setting::{changed, fill_queue};
 pub(crate) use showing::put_voice;
-pub(crate) use sounds::{fill_sides, fill_wide_sides, keep_sides, keep_wide_sides};
+pub(crate) use sounds::{fill_sides, fill_wide_sides, keep_both, keep_sides};
 pub(crate) use telling::told;
-pub(crate) use writing::{flag_number, one, put_given, put_numbers, sample_bits};
+pub(crate) use writing::{flag_number, put_figures, put_numbers, put_refused, sample_bits};
 
-// The numbers of an answer: so many, the first of these.
-#[derive(Clone, Copy)]
-pub(crate) struct Given {
-    pub numbers: [u64; 2],
-    pub count: usize,
+// The numbers of an answer.
+#[derive(Clone, Copy, Debug, PartialEq, Eq)]
+pub(crate) enum Figures {
+    Nothing,
+    One(u64),
+    Two(u64, u64),
 }

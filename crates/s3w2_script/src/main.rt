@@ -7,7 +7,6 @@ mod fields;
 mod sounding;
 
 use cores::CHIP_QUEUES;
-use program::BufferLine;
 use s3w2::Chip;
 use version::SguVersion;
 
@@ -102,20 +101,18 @@ fn play_lines(
     out: &mut [u8],
 ) -> usize {
     let mut player = first(&mut *ram);
-    let mut line = program::next_line(rt, &mut *text, BufferLine::none());
-    let mut turns: u64 = 0xffff_ffff_ffff_ffff;
-    while 0 < turns {
-        if !line.found {
+    let mut before = None;
+    for _ in 0..u64::MAX {
+        let Some(line) = program::next_line(rt, &mut *text, before) else {
             return player.end;
-        }
+        };
         player = player.line(
             num::part(&*text, line.from, line.to),
             &mut *ram,
             &mut *queues,
             &mut *out,
         );
-        line = program::next_line(rt, &mut *text, line);
-        turns -= 1;
+        before = Some(line);
     }
     player.end
 }

@@ -122,7 +122,7 @@ fn wide_sound_over(
 ) -> Called {
     fields::fill_wide_sides(&mut *left, &mut *right, line);
     let called = chip_sound::clock_mixed_into_i32(chip, ram, queues, &mut *left, &mut *right);
-    fields::keep_wide_sides(numbers, &*left, &*right);
+    fields::keep_both(numbers, &*left, &*right);
     called
 }
 

@@ -1,4 +1,5 @@
 -- A session's call leaves an accepted state accepted. Assumes nothing beyond the ranges that the types give.
+use Rattle.std.specs.Prelude.{Err}
 use mathlib.Core.Path.{◌≡◌, refl, ap, ◌∙◌}
 use mathlib.Core.Bool.{Bool, true, false, cond}
 use mathlib.Core.List.{List}
@@ -13,10 +14,8 @@ use Rattle.sizes.specs.Sizes.{num_channels}
 use Rattle.cores.specs.Sizes.{num_cores}
 use Rattle.num.proofs.Choice.{cond-by}
 use Rattle.tone.specs.Pcm.{is_ram_length}
-use Rattle.session_lines.specs.Head.{read_head}
+use Rattle.session_lines.specs.Head.{read_head, HeadLine}
 use Rattle.session_lines.specs.Lines.{NumberedVoice, ReadVoice, voice, malformed, queued, read_as}
-use Rattle.session_lines.specs.declared.HeadLine.{HeadLine}
-use Rattle.session_lines.specs.declared.HeadLine.TheVariants as head
 use Rattle.session_lines.proofs.Taken.{Told, read_told}
 use Rattle.voices.specs.Accepted.{accepts_core, AcceptedCore}
 use Rattle.voices.specs.declared.Core.{Core}
@@ -27,11 +26,15 @@ use Rattle.s3w2.specs.Chips.{core_at, with_core_at, no_core}
 use Rattle.s3w2.proofs.Fits.{SizedCores, core-accepts, accepted-at, chip-accepts}
 use Rattle.s3w2.proofs.Kept.{set-version-kept}
 use Rattle.session.specs.declared.LineCalled.{LineCalled}
-use Rattle.session.specs.declared.LineAnswer.TheVariants.{RamLength, QueueBuffer, NotAccepted, OtherLength}
+use Rattle.s3w2.specs.declared.Refusal.TheVariants.{RamLength, QueueBuffer, NotAccepted}
+use Rattle.session.specs.declared.LineRefusal.TheVariants.{OfChip, OtherLength}
 use Rattle.session.specs.Answers.{line_answered, state_accepted, queues_lent, with_state}
 use Rattle.session.specs.Heads.{version_called, head_called, read_head_called}
 use Rattle.session.specs.Voices.{core_of, loaded_core, loaded_chip, voice_called, voice_read_called}
 use Rattle.session.proofs.Loaded.{loaded-changed}
+use Rattle.std.specs.Prelude.{Ok, Err}
+use Rattle.session_lines.specs.declared.SessionHead.TheVariants.{Version, Sized}
+use Rattle.line_fields.specs.declared.FieldError.TheVariants.{Malformed}
 
 -- n is the length of the RAM that the chip is played over
 module _ (chip : Chip) (n : ℕ) (ok : accepts_chip chip n ≡ true) (two : length chip.cores ≡ num_cores) (sized : SizedCores chip) where
@@ -39,15 +42,15 @@ module _ (chip : Chip) (n : ℕ) (ok : accepts_chip chip n ≡ true) (two : leng
   fine x = accepts_chip x.chip n ≡ true
 
   head-kept : (h : HeadLine) → accepts_chip (head_called chip n h).chip n ≡ true
-  head-kept (head.Version version) = set-version-kept chip n ok sized version
-  head-kept (head.Sized version size) = cond-by fine (eqb size n) (version_called chip version) (line_answered chip OtherLength) (λ e. set-version-kept chip n ok sized version) (λ e. ok)
-  head-kept (head.Malformed field) = ok
+  head-kept (Ok (Version version)) = set-version-kept chip n ok sized version
+  head-kept (Ok (Sized version size)) = cond-by fine (eqb size n) (version_called chip version) (line_answered chip (Err OtherLength)) (λ e. set-version-kept chip n ok sized version) (λ e. ok)
+  head-kept (Err (Malformed field)) = ok
 
   pub read-head-kept : (text : List ℕ) → accepts_chip (read_head_called chip n text).chip n ≡ true
   unfolding read_head_called
   read-head-kept text =
-      cond-by fine (is_ram_length n) (cond (accepts_chip chip n) (head_called chip n (read_head text)) (line_answered chip NotAccepted)) (line_answered chip RamLength)
-      (λ e. cond-by fine (accepts_chip chip n) (head_called chip n (read_head text)) (line_answered chip NotAccepted) (λ e. head-kept (read_head text)) (λ e. ok))
+      cond-by fine (is_ram_length n) (cond (accepts_chip chip n) (head_called chip n (read_head text)) (line_answered chip (Err (OfChip NotAccepted)))) (line_answered chip (Err (OfChip RamLength)))
+      (λ e. cond-by fine (accepts_chip chip n) (head_called chip n (read_head text)) (line_answered chip (Err (OfChip NotAccepted))) (λ e. head-kept (read_head text)) (λ e. ok))
       (λ e. ok)
 
   -- one core changed
@@ -79,6 +82,6 @@ module _ (chip : Chip) (n : ℕ) (ok : accepts_chip chip n ≡ true) (two : leng
   unfolding voice_read_called
   read-voice-kept stored queues text =
       let r = read_as stored chip.version text in
-      cond-by fine (queues_lent queues) (with_state chip (voice_called chip r) (line_answered chip NotAccepted)) (line_answered chip QueueBuffer)
-      (λ e. cond-by fine (state_accepted chip) (voice_called chip r) (line_answered chip NotAccepted) (λ e. line_kept r (read_told stored chip.version text)) (λ e. ok))
+      cond-by fine (queues_lent queues) (with_state chip (voice_called chip r) (line_answered chip (Err (OfChip NotAccepted)))) (line_answered chip (Err (OfChip QueueBuffer)))
+      (λ e. cond-by fine (state_accepted chip) (voice_called chip r) (line_answered chip (Err (OfChip NotAccepted))) (λ e. line_kept r (read_told stored chip.version text)) (λ e. ok))
       (λ e. ok)

@@ -1,35 +1,53 @@
 -- What a session's call answers, and the numbers of documents 01 and 02 for calls turned away.
-use Rattle.std.specs.Prelude.{Bool, cond, List, [], ◌∷◌, ℕ, eqb, ℤ, length}
+use Rattle.std.specs.Prelude.{Result, Ok, Err, Bool, cond, List, [], ◌∷◌, ℕ, eqb, ℤ, length}
 use Rattle.sizes.specs.Sizes.{ram_most}
 use Rattle.cores.specs.Sizes.{chip_queues}
 use Rattle.tone.specs.Pcm.{is_ram_length}
-use Rattle.line_fields.specs.declared.Written as lines
-use Rattle.line_fields.specs.declared.Written.TheVariants as line
+use Rattle.line_fields.specs.Text as lines
+use Rattle.line_fields.specs.declared.RoomError.TheVariants as room
+use Rattle.line_fields.specs.declared.FieldError.{FieldError}
+use Rattle.line_fields.specs.declared.FieldError.TheVariants as fault
+use Rattle.session_lines.specs.declared.VoiceError.{VoiceError}
+use Rattle.session_lines.specs.declared.VoiceError.TheVariants as told
 use Rattle.s3w2.specs.Refusals.{accepts_chip}
 use Rattle.s3w2.specs.declared.Chip.{Chip}
-use Rattle.session.specs.declared.LineAnswer.{LineAnswer}
-use Rattle.session.specs.declared.LineAnswer.TheVariants.{Done, Written, RamLength, QueueBuffer, NotAccepted, TextBuffer, Malformed, OtherLength, Queued}
+use Rattle.s3w2.specs.Answers.{refusal_number}
+use Rattle.session.specs.declared.LineRefusal.{LineRefusal}
+use Rattle.session.specs.declared.LineRefusal.TheVariants.{OfChip, TextBuffer, Malformed, OtherLength, Queued}
 use Rattle.session.specs.declared.LineCalled.{LineCalled}
 
--- the number of a refusal with its values; an answer that is none has none
-abbrev pub numbers_of : LineAnswer → List ℕ
-numbers_of Done = []
-numbers_of (Written n) = []
-numbers_of RamLength = 1 ∷ []
-numbers_of QueueBuffer = 2 ∷ []
-numbers_of NotAccepted = 3 ∷ []
-numbers_of TextBuffer = 15 ∷ []
-numbers_of (Malformed field) = 16 ∷ field ∷ []
-numbers_of OtherLength = 22 ∷ []
-numbers_of Queued = 23 ∷ []
+-- what a call that gives an A answers
+abbrev pub LineAnswer : Type 0 → Type 0
+LineAnswer A = Result A LineRefusal
 
-abbrev pub line_answered : Chip → LineAnswer → LineCalled
+-- the number of a refusal with its values
+abbrev pub refusal_numbers : LineRefusal → List ℕ
+refusal_numbers (OfChip why) = refusal_number why ∷ []
+refusal_numbers TextBuffer = 15 ∷ []
+refusal_numbers (Malformed field) = 16 ∷ field ∷ []
+refusal_numbers OtherLength = 22 ∷ []
+refusal_numbers Queued = 23 ∷ []
+
+-- an answer that is none has none
+abbrev pub numbers_of : {A : Type 0} → LineAnswer A → List ℕ
+numbers_of (Ok x) = []
+numbers_of (Err why) = refusal_numbers why
+
+abbrev pub line_answered : Chip → LineAnswer (Unit {0}) → LineCalled
 line_answered chip answer = record { chip = chip; answer = answer }
 
 -- the length of the line that was written, or that there is no room for it
-abbrev pub wrote : lines.Written → LineAnswer
-wrote (line.Length n) = Written n
-wrote line.TextBuffer = TextBuffer
+abbrev pub wrote : lines.Written → LineAnswer ℕ
+wrote (Ok n) = Ok n
+wrote (Err room.TextBuffer) = Err TextBuffer
+
+-- what refuses a line
+abbrev pub field_refused : FieldError → LineRefusal
+field_refused (fault.Malformed field) = Malformed field
+
+abbrev pub voice_refused : VoiceError → LineRefusal
+voice_refused (told.Malformed field) = Malformed field
+voice_refused told.Queued = Queued
 
 -- ---- what a call asks for
 

@@ -1,5 +1,5 @@
 -- A voice line written, and read.
-use Rattle.std.specs.Prelude.{Bool, true, false, List, ℕ, ◌*◌, ◌/◌, ◌%◌, ℤ}
+use Rattle.std.specs.Prelude.{Ok, Err, Bool, true, false, List, ℕ, ◌*◌, ◌/◌, ◌%◌, ℤ}
 use Rattle.std.proofs.lemmas.List.Edits.{sets}
 use Rattle.sizes.specs.Sizes.{fifo_capacity, num_channels}
 use Rattle.num.specs.Lists.{part}
@@ -11,10 +11,10 @@ use Rattle.voices.specs.Own.{queue_at}
 use Rattle.voices.specs.declared.Core.{Core}
 use Rattle.s3w2.specs.Chips.{core_at, with_core_at}
 use Rattle.s3w2.specs.declared.Chip.{Chip}
-use Rattle.session.specs.declared.LineAnswer.{LineAnswer}
-use Rattle.session.specs.declared.LineAnswer.TheVariants.{Done, QueueBuffer, NotAccepted, Malformed, Queued}
+use Rattle.s3w2.specs.declared.Refusal.TheVariants.{QueueBuffer, NotAccepted}
+use Rattle.session.specs.declared.LineRefusal.TheVariants.{OfChip, Malformed, Queued}
 use Rattle.session.specs.declared.LineCalled.{LineCalled}
-use Rattle.session.specs.Answers.{line_answered, wrote, with_lent_queues}
+use Rattle.session.specs.Answers.{LineAnswer, line_answered, wrote, with_lent_queues}
 
 -- voice v is channel v % 8 of core v / 8
 abbrev pub core_of : Chip → ℕ → Core
@@ -31,8 +31,8 @@ unfoldable pub line_of_voice : Chip → List ℤ → ℕ → List ℕ
 line_of_voice chip queues voice =
     voice_text voice (channel_at (core_of chip voice) (voice % num_channels)) (table_at (core_of chip voice) (voice % num_channels)) (queue_at queues voice)
 
-unfoldable pub write_voice_answer : Chip → List ℤ → ℕ → List ℕ → LineAnswer
-write_voice_answer chip queues voice out = with_lent_queues chip queues (wrote (written_of out (line_of_voice chip queues voice))) NotAccepted QueueBuffer
+unfoldable pub write_voice_answer : Chip → List ℤ → ℕ → List ℕ → LineAnswer ℕ
+write_voice_answer chip queues voice out = with_lent_queues chip queues (wrote (written_of out (line_of_voice chip queues voice))) (Err (OfChip NotAccepted)) (Err (OfChip QueueBuffer))
 
 unfoldable pub write_voice_text : Chip → List ℤ → ℕ → List ℕ → List ℕ
 write_voice_text chip queues voice out = with_lent_queues chip queues (put_of out (line_of_voice chip queues voice)) out out
@@ -51,9 +51,9 @@ loaded_queues queues voice r = sets queues (voice * fifo_capacity) (queue_after 
 
 -- a line sets the voice that it names; one that tells of none changes nothing
 abbrev pub voice_called : Chip → ReadVoice → LineCalled
-voice_called chip (lines.voice v) = line_answered (loaded_chip chip v.number (lines.voice v)) Done
-voice_called chip (malformed field) = line_answered chip (Malformed field)
-voice_called chip queued = line_answered chip Queued
+voice_called chip (lines.voice v) = line_answered (loaded_chip chip v.number (lines.voice v)) (Ok tt)
+voice_called chip (malformed field) = line_answered chip (Err (Malformed field))
+voice_called chip queued = line_answered chip (Err Queued)
 
 abbrev pub voice_queues : List ℤ → ReadVoice → List ℤ
 voice_queues queues (lines.voice v) = loaded_queues queues v.number (lines.voice v)
@@ -63,7 +63,7 @@ voice_queues queues queued = queues
 -- as a stored line or as any
 unfoldable pub voice_read_called : Bool → Chip → List ℤ → List ℕ → LineCalled
 voice_read_called stored chip queues text =
-    with_lent_queues chip queues (voice_called chip (read_as stored chip.version text)) (line_answered chip NotAccepted) (line_answered chip QueueBuffer)
+    with_lent_queues chip queues (voice_called chip (read_as stored chip.version text)) (line_answered chip (Err (OfChip NotAccepted))) (line_answered chip (Err (OfChip QueueBuffer)))
 
 unfoldable pub voice_read_queues : Bool → Chip → List ℤ → List ℕ → List ℤ
 voice_read_queues stored chip queues text = with_lent_queues chip queues (voice_queues queues (read_as stored chip.version text)) queues queues

@@ -1,66 +1,81 @@
 // What the calls answer.
-ghost use Rattle.std.specs.Prelude.{◌≡◌, get_or};
-ghost use Rattle.session.specs.Answers.{numbers_of, wrote, line_answered, state_accepted};
+ghost use Rattle.std.specs.Prelude.{◌≡◌, get_or, slice_get};
+ghost use Rattle.session.specs.declared.LineRefusal.TheVariants as refusals;
+ghost use Rattle.session.specs.Answers.{refusal_numbers, wrote, field_refused, voice_refused, line_answered};
 
-use crate::{LineAnswer, LineCalled};
-use line_fields::Written;
-use s3w2::Chip;
-use sizes::RAM_MOST;
+use crate::{LineCalled, LineRefusal};
+use line_fields::{FieldError, RoomError};
+use s3w2::{Chip, Refusal};
+use session_lines::VoiceError;
 
-// No address of an accepted state is past the largest RAM, so it stands for a RAM that is not lent.
-pub(crate) fn accepted(chip: Chip) -> bool
-    ensures { result ≡ state_accepted chip }
-{
-    chip.accepts(RAM_MOST)
-}
-
-pub(crate) fn answers(chip: Chip, answer: LineAnswer) -> LineCalled
+pub(crate) fn answers(chip: Chip, answer: Result<(), LineRefusal>) -> LineCalled
     ensures { result ≡ line_answered chip answer }
 {
     LineCalled { chip, answer }
 }
 
-pub(crate) fn told(written: Written) -> LineAnswer
+pub(crate) fn told(written: Result<usize, RoomError>) -> Result<usize, LineRefusal>
     ensures { result ≡ wrote written }
 {
     match written {
-        Written::Length(n) => LineAnswer::Written(n),
-        Written::TextBuffer => LineAnswer::TextBuffer,
+        Ok(n) => Ok(n),
+        Err(RoomError::TextBuffer) => Err(LineRefusal::TextBuffer),
     }
 }
 
-impl LineAnswer {
-    // The number of a refusal in documents 01 and 02; 0 where it is none.
+impl From<FieldError> for LineRefusal {
+    ghost from_gives = { λ error refusal. refusal ≡ field_refused error };
+
+    fn from(error: FieldError) -> LineRefusal {
+        match error {
+            FieldError::Malformed(field) => LineRefusal::Malformed(field),
+        }
+    }
+}
+
+impl From<VoiceError> for LineRefusal {
+    ghost from_gives = { λ error refusal. refusal ≡ voice_refused error };
+
+    fn from(error: VoiceError) -> LineRefusal {
+        match error {
+            VoiceError::Malformed(field) => LineRefusal::Malformed(field),
+            VoiceError::Queued => LineRefusal::Queued,
+        }
+    }
+}
+
+impl From<Refusal> for LineRefusal {
+    ghost from_gives = { λ why e. e ≡ refusals.OfChip why };
+
+    fn from(refusal: Refusal) -> LineRefusal {
+        LineRefusal::OfChip(refusal)
+    }
+}
+
+impl LineRefusal {
+    // Its number in documents 01 and 02.
     pub fn number(self) -> u8
-        ensures { result ≡ get_or (numbers_of self) 0 0 }
+        ensures { result ≡ get_or (refusal_numbers self) 0 0 }
     {
         match self {
-            LineAnswer::Done => 0,
-            LineAnswer::Written(_) => 0,
-            LineAnswer::RamLength => 1,
-            LineAnswer::QueueBuffer => 2,
-            LineAnswer::NotAccepted => 3,
-            LineAnswer::TextBuffer => 15,
-            LineAnswer::Malformed(_) => 16,
-            LineAnswer::OtherLength => 22,
-            LineAnswer::Queued => 23,
+            LineRefusal::OfChip(refusal) => refusal.number(),
+            LineRefusal::TextBuffer => 15,
+            LineRefusal::Malformed(_) => 16,
+            LineRefusal::OtherLength => 22,
+            LineRefusal::Queued => 23,
         }
     }
 
-    // The field at fault; 0 where there is none.
-    pub fn field(self) -> usize
-        ensures { result ≡ get_or (numbers_of self) 1 0 }
+    // The field at fault.
+    pub fn field(self) -> Option<usize>
+        ensures { result ≡ slice_get (refusal_numbers self) 1 }
     {
         match self {
-            LineAnswer::Done => 0,
-            LineAnswer::Written(_) => 0,
-            LineAnswer::RamLength => 0,
-            LineAnswer::QueueBuffer => 0,
-            LineAnswer::NotAccepted => 0,
-            LineAnswer::TextBuffer => 0,
-            LineAnswer::Malformed(field) => field,
-            LineAnswer::OtherLength => 0,
-            LineAnswer::Queued => 0,
+            LineRefusal::Malformed(field) => Some(field),
+            LineRefusal::OfChip(_) => None,
+            LineRefusal::TextBuffer => None,
+            LineRefusal::OtherLength => None,
+            LineRefusal::Queued => None,
         }
     }
 }

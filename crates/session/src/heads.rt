@@ -3,22 +3,17 @@ ghost use Rattle.std.specs.Prelude.{◌≡◌, length};
 ghost use Rattle.session.specs.Heads.{write_head_answer, write_head_text, version_called, read_head_called};
 
 use crate::answers::{answers, told};
-use crate::{LineAnswer, LineCalled};
+use crate::{LineCalled, LineRefusal};
 use s3w2::Chip;
-use session_lines::HeadLine;
+use session_lines::SessionHead;
 use version::SguVersion;
 
 // Writes the head line.
-pub fn write_head(chip: Chip, ram: &[u8], out: &mut [u8]) -> LineAnswer
+pub fn write_head(chip: Chip, ram: &[u8], out: &mut [u8]) -> Result<usize, LineRefusal>
     ensures answer { result ≡ write_head_answer chip (length ram.now) out.old }
     ensures out { out.new ≡ write_head_text chip (length ram.now) out.old }
 {
-    if !tone::is_ram_length(ram.len()) {
-        return LineAnswer::RamLength;
-    }
-    if !chip.accepts(ram.len()) {
-        return LineAnswer::NotAccepted;
-    }
+    chip.refusal_with_ram(ram.len())?;
     let version = chip.version;
     told(session_lines::write_head(version, ram.len(), out))
 }
@@ -27,28 +22,27 @@ fn set_version(chip: Chip, version: SguVersion) -> LineCalled
     ensures { result ≡ version_called chip version }
 {
     let called = chip.set_version(version);
-    answers(called.chip, LineAnswer::Done)
+    answers(called.chip, Ok(()))
 }
 
 // What `set_version` does. A head that tells the length of another RAM is turned away.
 pub fn read_head(chip: Chip, ram: &[u8], text: &[u8]) -> LineCalled
     ensures { result ≡ read_head_called chip (length ram.now) text.now }
 {
-    if !tone::is_ram_length(ram.len()) {
-        return answers(chip, LineAnswer::RamLength);
+    if let Err(refusal) = chip.refusal_with_ram(ram.len()) {
+        return answers(chip, Err(LineRefusal::from(refusal)));
     }
-    if !chip.accepts(ram.len()) {
-        return answers(chip, LineAnswer::NotAccepted);
-    }
-    let head = session_lines::read_head(text);
+    let head = match session_lines::read_head(text) {
+        Ok(head) => head,
+        Err(error) => return answers(chip, Err(LineRefusal::from(error))),
+    };
     match head {
-        HeadLine::Version(version) => set_version(chip, version),
-        HeadLine::Sized { version, size } => {
+        SessionHead::Version(version) => set_version(chip, version),
+        SessionHead::Sized { version, size } => {
             if size != ram.len() {
-                return answers(chip, LineAnswer::OtherLength);
+                return answers(chip, Err(LineRefusal::OtherLength));
             }
             set_version(chip, version)
         }
-        HeadLine::Malformed(field) => answers(chip, LineAnswer::Malformed(field)),
     }
 }

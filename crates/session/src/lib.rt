@@ -9,18 +9,14 @@ mod writing;
 
 pub use heads::{read_head, write_head};
 pub use reading::{read_stored_voice, read_voice};
-use s3w2::Chip;
+use s3w2::{Chip, Refusal};
 pub use writing::write_voice;
 
-// What a call answers: that it is done, the length of the line that it wrote, or why it is turned away. A field is counted
-// from 1.
-#[derive(Clone, Copy)]
-pub enum LineAnswer {
-    Done,
-    Written(usize),
-    RamLength,
-    QueueBuffer,
-    NotAccepted,
+// Why a call is turned away. A field is counted from 1.
+#[derive(Clone, Copy, Debug, PartialEq, Eq)]
+pub enum LineRefusal {
+    // As another call of the chip is.
+    OfChip(Refusal),
     TextBuffer,
     Malformed(usize),
     OtherLength,
@@ -30,5 +26,5 @@ pub enum LineAnswer {
 #[derive(Clone, Copy)]
 pub struct LineCalled {
     pub chip: Chip,
-    pub answer: LineAnswer,
+    pub answer: Result<(), LineRefusal>,
 }

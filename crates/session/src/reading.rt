@@ -5,11 +5,9 @@ ghost use Rattle.session_lines.specs.Lines.{read_as};
 ghost use Rattle.session.specs.Voices.{loaded_chip, loaded_queues, voice_read_called, voice_read_queues};
 ghost use Rattle.session.specs.Voices.{read_voice_called, read_voice_queues, read_stored_voice_called, read_stored_voice_queues};
 
-use crate::answers::{accepted, answers};
-use crate::{LineAnswer, LineCalled};
-use cores::CHIP_QUEUES;
+use crate::answers::answers;
+use crate::{LineCalled, LineRefusal};
 use s3w2::Chip;
-use session_lines::VoiceLine;
 use sizes::{FIFO_CAPACITY, NUM_CHANNELS};
 
 // The line is read into a voice, which is lent its own wavetable and queue entries; its fragments stay, its cache is empty.
@@ -47,20 +45,14 @@ fn read(chip: Chip, queues: &mut [i16], stored: bool, text: &[u8]) -> LineCalled
     ensures called { result ≡ voice_read_called stored chip queues.old text.now }
     ensures queues { queues.new ≡ voice_read_queues stored chip queues.old text.now }
 {
-    if queues.len() != CHIP_QUEUES {
-        return answers(chip, LineAnswer::QueueBuffer);
-    }
-    if !accepted(chip) {
-        return answers(chip, LineAnswer::NotAccepted);
+    if let Err(refusal) = chip.refusal_with_queues(queues.len()) {
+        return answers(chip, Err(LineRefusal::from(refusal)));
     }
     let version = chip.version;
     let line = session_lines::check_voice(stored, version, text);
     match line {
-        VoiceLine::Voice(voice) => {
-            answers(load(chip, queues, stored, voice, text), LineAnswer::Done)
-        }
-        VoiceLine::Malformed(field) => answers(chip, LineAnswer::Malformed(field)),
-        VoiceLine::Queued => answers(chip, LineAnswer::Queued),
+        Ok(voice) => answers(load(chip, queues, stored, voice, text), Ok(())),
+        Err(error) => answers(chip, Err(LineRefusal::from(error))),
     }
 }
 

@@ -2,25 +2,25 @@
 ghost use Rattle.std.specs.Prelude.{◌≡◌};
 ghost use Rattle.session.specs.Voices.{write_voice_answer, write_voice_text};
 
-use crate::LineAnswer;
-use crate::answers::{accepted, told};
-use cores::{CHIP_QUEUES, CHIP_VOICES};
+use crate::LineRefusal;
+use crate::answers::told;
+use cores::CHIP_VOICES;
 use s3w2::Chip;
 use sizes::{FIFO_CAPACITY, NUM_CHANNELS};
 
 // No voice above 15 has a line.
-pub fn write_voice(chip: Chip, queues: &[i16], voice: usize, out: &mut [u8]) -> LineAnswer
+pub fn write_voice(
+    chip: Chip,
+    queues: &[i16],
+    voice: usize,
+    out: &mut [u8],
+) -> Result<usize, LineRefusal>
     ensures answer { result ≡ write_voice_answer chip queues.now voice out.old }
     ensures out { out.new ≡ write_voice_text chip queues.now voice out.old }
 {
-    if queues.len() != CHIP_QUEUES {
-        return LineAnswer::QueueBuffer;
-    }
-    if !accepted(chip) {
-        return LineAnswer::NotAccepted;
-    }
+    chip.refusal_with_queues(queues.len())?;
     if CHIP_VOICES <= voice {
-        return LineAnswer::Written(0);
+        return Ok(0);
     }
     let k = voice / NUM_CHANNELS;
     let ch = voice % NUM_CHANNELS;

@@ -1,57 +1,63 @@
 -- The head: what is written and read, one law for each way that the code goes. Assumes nothing.
 use mathlib.Core.Path.{◌≡◌, refl, sym, ap, ap₂, ◌∙◌}
 use mathlib.Core.Bool.{Bool, true, false, cond}
+use Rattle.std.specs.Prelude.{◌&&◌}
+use lib.Pointwise.{pointwise}
 use mathlib.Core.List.{List, [], ◌∷◌, ◌++◌}
 use Prim.Native.Nat.{ℕ, zero, suc, ◌+◌, ◌*◌, ◌≤◌, ◌<◌, max}
 use native.Mathlib.Nat.{add-zero}
 use native.Mathlib.Omega.{arith}
 use lib.Dec.{eqb}
-use lib.ListN.{length, drop, get_or, length-append}
+use lib.ListN.{length, take, drop, get_or, length-append}
 use lib.Seq.{drop_at, drop-drop, get_or-drop}
-use borrow.Author.Tests.{eqb-true, eq-eqb, ne_eqb, le-leb, lt-leb}
+use borrow.Author.Tests.{eqb-true, eqb-false, eq-eqb, ne_eqb, le-leb, lt-leb}
 use Rattle.num.proofs.Choice.{never}
 use Rattle.decimal.specs.Written.{decimal, Put}
 use Rattle.decimal.specs.Read.{natural_at}
-use Rattle.decimal.specs.declared.TakenNatural.TheVariants.{Natural}
 use Rattle.decimal.proofs.Writing.{put-append}
 use Rattle.decimal.proofs.RoundTrip.{natural-back}
 use Rattle.line_fields.specs.Reading.{ends_at, closed_at}
 use Rattle.line_fields.specs.Text.{written_of, put_of}
-use Rattle.line_fields.specs.declared.Written.TheVariants.{Length, TextBuffer}
 use Rattle.tone.specs.Pcm.{power_from, is_ram_length}
 use Rattle.version.specs.Versions.{version_number, version_of}
 use Rattle.version.specs.declared.SguVersion.{SguVersion}
 use Rattle.version.specs.declared.SguVersion.TheVariants.{V1, V2, V2_1, V3, V3_1}
-use Rattle.session_lines.specs.Head.{head_text, has_magic, sized_head, behind_version, head_of, read_head}
-use Rattle.session_lines.specs.declared.HeadLine.TheVariants.{Version, Sized, Malformed}
+use Rattle.session_lines.specs.Head.{HeadLine, head_text, has_magic, sized_head, behind_version, head_of, read_head}
+use Rattle.std.specs.Prelude.{Some, Ok, Err}
+use Rattle.session_lines.specs.declared.SessionHead.TheVariants.{Version, Sized}
+use Rattle.line_fields.specs.declared.FieldError.TheVariants.{Malformed}
+use Rattle.line_fields.specs.declared.RoomError.TheVariants.{TextBuffer}
 
 -- ---- the name
-pub other-1 : (t : List ℕ) → (get_or t 0 0 ≡ 83 → ⊥) → has_magic t ≡ false
-unfolding has_magic
-other-1 t a = rw (ne_eqb (get_or t 0 0) 83 a)
+flip : (a b : ℕ) → eqb a b ≡ eqb b a
+flip a b = go (eqb a b) refl
+  where
+    go : (e : Bool) → eqb a b ≡ e → eqb a b ≡ eqb b a
+    go true e = e ∙ sym (eq-eqb b a (sym (eqb-true a b e)))
+    go false e = e ∙ sym (ne_eqb b a (λ q. eqb-false a b e (sym q)))
 
-pub other-2 : (t : List ℕ) → get_or t 0 0 ≡ 83 → (get_or t 1 0 ≡ 51 → ⊥) → has_magic t ≡ false
-unfolding has_magic
-other-2 t a b = rw (eq-eqb (get_or t 0 0) 83 a, ne_eqb (get_or t 1 0) 51 b)
+and-true : (b : Bool) → (b && true) ≡ b
+and-true true = refl
+and-true false = refl
 
-pub other-3 : (t : List ℕ) → get_or t 0 0 ≡ 83 → get_or t 1 0 ≡ 51 → (get_or t 2 0 ≡ 87 → ⊥) → has_magic t ≡ false
+pub named-is : (t : List ℕ) → pointwise eqb (83 ∷ 51 ∷ 87 ∷ 50 ∷ []) (take 4 t) ≡ has_magic t
 unfolding has_magic
-other-3 t a b c = rw (eq-eqb (get_or t 0 0) 83 a, eq-eqb (get_or t 1 0) 51 b, ne_eqb (get_or t 2 0) 87 c)
-
-pub last-4 : (t : List ℕ) → get_or t 0 0 ≡ 83 → get_or t 1 0 ≡ 51 → get_or t 2 0 ≡ 87 → has_magic t ≡ eqb (get_or t 3 0) 50
-unfolding has_magic
-last-4 t a b c = rw (eq-eqb (get_or t 0 0) 83 a, eq-eqb (get_or t 1 0) 51 b, eq-eqb (get_or t 2 0) 87 c)
+named-is [] = refl
+named-is (a ∷ []) = rw (flip 83 a) refl
+named-is (a ∷ b ∷ []) = rw (flip 83 a, flip 51 b) refl
+named-is (a ∷ b ∷ c ∷ []) = rw (flip 83 a, flip 51 b, flip 87 c) refl
+named-is (a ∷ b ∷ c ∷ d ∷ t) = rw (flip 83 a, flip 51 b, flip 87 c, flip 50 d, and-true (eqb d 50)) refl
 
 -- ---- the head
-pub not_named : (t : List ℕ) → has_magic t ≡ false → read_head t ≡ Malformed 1
+pub not_named : (t : List ℕ) → has_magic t ≡ false → read_head t ≡ Err (Malformed 1)
 unfolding read_head
 not_named t e = rw e
 
-pub name-only : (t : List ℕ) → has_magic t ≡ true → (get_or t 4 0 ≡ 44 → ⊥) → ends_at t 4 ≡ true → read_head t ≡ Malformed 2
+pub name-only : (t : List ℕ) → has_magic t ≡ true → (get_or t 4 0 ≡ 44 → ⊥) → ends_at t 4 ≡ true → read_head t ≡ Err (Malformed 2)
 unfolding read_head
 name-only t e a f = rw (e, ne_eqb (get_or t 4 0) 44 a, f)
 
-pub name-longer : (t : List ℕ) → has_magic t ≡ true → (get_or t 4 0 ≡ 44 → ⊥) → ends_at t 4 ≡ false → read_head t ≡ Malformed 1
+pub name-longer : (t : List ℕ) → has_magic t ≡ true → (get_or t 4 0 ≡ 44 → ⊥) → ends_at t 4 ≡ false → read_head t ≡ Err (Malformed 1)
 unfolding read_head
 name-longer t e a f = rw (e, ne_eqb (get_or t 4 0) 44 a, f)
 
@@ -59,10 +65,10 @@ pub read : (t : List ℕ) → has_magic t ≡ true → get_or t 4 0 ≡ 44 → r
 unfolding read_head
 read t e a = rw (e, eq-eqb (get_or t 4 0) 44 a)
 
-pub over : (t : List ℕ) (n next : ℕ) → 4 < n → head_of t (Natural n next) ≡ Malformed 2
+pub over : (t : List ℕ) (n next : ℕ) → 4 < n → head_of t (Some (n, next)) ≡ Err (Malformed 2)
 over t n next h = rw (lt-leb n 4 h)
 
-pub within : (t : List ℕ) (n next : ℕ) → n ≤ 4 → head_of t (Natural n next) ≡ behind_version t (version_of n) next
+pub within : (t : List ℕ) (n next : ℕ) → n ≤ 4 → head_of t (Some (n, next)) ≡ behind_version t (version_of n) next
 within t n next h = rw (le-leb n 4 h)
 
 -- ---- behind the version
@@ -71,23 +77,23 @@ module _ (t : List ℕ) (version : SguVersion) (next : ℕ) where
   unfolding behind_version
   comma e = rw (eq-eqb (get_or t next 0) 44 e)
 
-  pub open-end : (get_or t next 0 ≡ 44 → ⊥) → closed_at t next ≡ false → behind_version t version next ≡ Malformed 3
+  pub open-end : (get_or t next 0 ≡ 44 → ⊥) → closed_at t next ≡ false → behind_version t version next ≡ Err (Malformed 3)
   unfolding behind_version
   open-end a e = rw (ne_eqb (get_or t next 0) 44 a, e)
 
-  pub two_fields : (get_or t next 0 ≡ 44 → ⊥) → closed_at t next ≡ true → behind_version t version next ≡ Version version
+  pub two_fields : (get_or t next 0 ≡ 44 → ⊥) → closed_at t next ≡ true → behind_version t version next ≡ Ok (Version version)
   unfolding behind_version
   two_fields a e = rw (ne_eqb (get_or t next 0) 44 a, e)
 
 -- ---- the third field
 module _ (t : List ℕ) (version : SguVersion) (size next : ℕ) where
-  pub not-allowed : is_ram_length size ≡ false → sized_head t version (Natural size next) ≡ Malformed 3
+  pub not-allowed : is_ram_length size ≡ false → sized_head t version (Some (size, next)) ≡ Err (Malformed 3)
   not-allowed e = rw e
 
-  pub sized-open : is_ram_length size ≡ true → closed_at t next ≡ false → sized_head t version (Natural size next) ≡ Malformed 4
+  pub sized-open : is_ram_length size ≡ true → closed_at t next ≡ false → sized_head t version (Some (size, next)) ≡ Err (Malformed 4)
   sized-open e f = rw (e, f)
 
-  pub three-fields : is_ram_length size ≡ true → closed_at t next ≡ true → sized_head t version (Natural size next) ≡ Sized version size
+  pub three-fields : is_ram_length size ≡ true → closed_at t next ≡ true → sized_head t version (Some (size, next)) ≡ Ok (Sized version size)
   three-fields e f = rw (e, f)
 
 pub version-most : (v : SguVersion) → version_number v ≤ 4
@@ -113,12 +119,12 @@ head-put l a b c d k e f g h r n version size q p1 p2 p3 p4 p5 =
     (put-append c d k g h r (decimal size) (10 ∷ []) p4 p5))))
 
 module _ (out : List ℕ) (version : SguVersion) (size width : ℕ) (w : width ≡ length (decimal size)) where
-  pub head-yes : (k : List ℕ) (r : ℕ) → 8 + width ≤ length out → Put out k 0 (head_text version size) r → (Length r ≡ written_of out (head_text version size)) × (k ≡ put_of out (head_text version size))
+  pub head-yes : (k : List ℕ) (r : ℕ) → 8 + width ≤ length out → Put out k 0 (head_text version size) r → (Ok r ≡ written_of out (head_text version size)) × (k ≡ put_of out (head_text version size))
   head-yes k r h p =
       let long : length (head_text version size) ≤ length out = omega (arith, head-width version size, w) in
-      rw (le-leb (length (head_text version size)) (length out) long) (ap Length (omega (arith, p.0, long)), p.1)
+      rw (le-leb (length (head_text version size)) (length out) long) (ap Ok (omega (arith, p.0, long)), p.1)
 
-  pub head-no : length out < 8 + width → (TextBuffer ≡ written_of out (head_text version size)) × (out ≡ put_of out (head_text version size))
+  pub head-no : length out < 8 + width → (Err TextBuffer ≡ written_of out (head_text version size)) × (out ≡ put_of out (head_text version size))
   head-no h = rw (lt-leb (length (head_text version size)) (length out) (omega (arith, head-width version size, w))) (refl, refl)
 
 -- ---- allowed lengths: the largest of k powers of two
@@ -171,7 +177,7 @@ version-back V2_1 rest = refl
 version-back V3 rest = refl
 version-back V3_1 rest = refl
 
-pub head-back : (version : SguVersion) (size : ℕ) → is_ram_length size ≡ true → read_head (head_text version size) ≡ Sized version size
+pub head-back : (version : SguVersion) (size : ℕ) → is_ram_length size ≡ true → read_head (head_text version size) ≡ Ok (Sized version size)
 unfolding head_text
 head-back version size e =
     let before : List ℕ = 83 ∷ 51 ∷ 87 ∷ 50 ∷ 44 ∷ (48 + version_number version) ∷ 44 ∷ [] in
@@ -185,5 +191,5 @@ pub same_head : (version other : SguVersion) (size length : ℕ) → is_ram_leng
     → (head_text version size ≡ head_text other length → (version ≡ other) × (size ≡ length)) × ((version ≡ other) × (size ≡ length) → head_text version size ≡ head_text other length)
 same_head version other size length a b = (λ e. read_same (sym (head-back version size a) ∙ ap read_head e ∙ head-back other length b), λ e. ap₂ head_text e.0 e.1)
   where
-    read_same : Sized version size ≡ Sized other length → (version ≡ other) × (size ≡ length)
+    read_same : ◌≡◌ {A = HeadLine} (Ok (Sized version size)) (Ok (Sized other length)) → (version ≡ other) × (size ≡ length)
     read_same e = (cc, cc)

@@ -2,10 +2,8 @@
 use mathlib.Core.Path.{◌≡◌, refl, ap, ◌∙◌}
 use mathlib.Core.List.{List}
 use Prim.Native.Nat.{ℕ}
-use Rattle.session_lines.specs.Head.{read_head, head_line_number, head_refusal}
-use Rattle.session_lines.specs.Lines.{ReadVoice, voice, malformed, queued, told_of, voice_line_number, voice_refusal}
-use Rattle.session_lines.specs.declared.HeadLine.{HeadLine}
-use Rattle.session_lines.specs.declared.VoiceLine.{VoiceLine}
+use Rattle.session_lines.specs.Head.{read_head, head_line_number, head_refusal, HeadLine}
+use Rattle.session_lines.specs.Lines.{ReadVoice, voice, malformed, queued, told_of, voice_line_number, voice_refusal, VoiceLine}
 
 pub voice-refused : (v : ReadVoice) → voice_line_number (told_of v) ≡ voice_refusal v
 unfolding voice_refusal

@@ -11,11 +11,8 @@ use borrow.Author.Tests.{le-leb, lt-ltb, le-ltb}
 use Rattle.sizes.specs.Sizes.{fifo_capacity}
 use Rattle.cores.specs.Sizes.{chip_voices}
 use Rattle.num.proofs.Lists.{sets-append}
-use Rattle.line_fields.specs.Text.{line_text, written_of, put_of}
+use Rattle.line_fields.specs.Text.{line_text, written_of, put_of, Written}
 use Rattle.line_fields.specs.Reading.{ReadLine, line, malformed, read_line, fields_of, line_numbers}
-use Rattle.line_fields.specs.declared.Fields.TheVariants.{Count, Malformed}
-use Rattle.line_fields.specs.declared.Written.{Written}
-use Rattle.line_fields.specs.declared.Written.TheVariants.{Length}
 use Rattle.line_fields.proofs.Good.{read-good}
 use Rattle.version.specs.Versions.{has3ws8pna}
 use Rattle.registers.specs.Queue.{allows_fifo}
@@ -23,10 +20,13 @@ use Rattle.registers.specs.declared.Fifo.{Fifo}
 use Rattle.version.specs.declared.SguVersion.{SguVersion}
 use Rattle.voice.specs.declared.Channel.{Channel}
 use Rattle.session_lines.specs.Numbers.{at, state_numbers, table_numbers, queue_numbers, field_numbers, channel_from, table_of, queued_samples}
-use Rattle.session_lines.specs.Lines.{ReadVoice, voice, voice_of, queue_told, voice_taken, voice_from, read_as, voice_text, told_of, channel_after, table_after, queue_after}
+use Rattle.session_lines.specs.Lines.{refused_voice, ReadVoice, voice, voice_of, queue_told, voice_taken, voice_from, read_as, voice_text, told_of, channel_after, table_after, queue_after}
 use Rattle.session_lines.specs.Lines as lines
-use Rattle.session_lines.specs.declared.VoiceLine.TheVariants as told
 use Rattle.session_lines.proofs.Storing.{size-table, size-queue}
+use Rattle.std.specs.Prelude.{Ok, Err}
+use Rattle.session_lines.specs.declared.VoiceError.TheVariants as told
+use Rattle.line_fields.specs.declared.FieldError.{FieldError}
+use Rattle.line_fields.specs.declared.FieldError.TheVariants.{Malformed}
 
 -- ---- zeros
 zero-at : (n k : ℕ) → ◌≡◌ {A = ℕ} (get_or (replicate n 0) k 0) 0
@@ -46,12 +46,18 @@ found m ns h k =
     ∙ before-zeros ns (drop (0 + length ns) (replicate m 0)) (λ j. get_or-drop (0 + length ns) (replicate m 0) j 0 ∙ zero-at m (0 + length ns + j)) k
 
 -- ---- read
+abbrev pub field_of : FieldError → ℕ
+field_of (Malformed field) = field
+
+pub refused : (x : FieldError) → told_of (lines.malformed (field_of x)) ≡ Err (refused_voice x)
+refused (Malformed field) = refl
+
 module _ (stored : Bool) (version : SguVersion) where
   -- the voice that numbers tell
   abbrev pub by : (ℕ → ℕ) → ReadVoice
   by f = voice_taken version f (queue_told stored version f)
 
-  pub read-yes : (text : List ℕ) (fifo : Bool) (count : ℕ) (buffer : List ℕ) → fifo ≡ has3ws8pna version → Count count ≡ fields_of (read_line fifo text) → buffer ≡ sets (replicate 2330 0) 0 (line_numbers (read_line fifo text)) → read_as stored version text ≡ by (at buffer)
+  pub read-yes : (text : List ℕ) (fifo : Bool) (count : ℕ) (buffer : List ℕ) → fifo ≡ has3ws8pna version → Ok count ≡ fields_of (read_line fifo text) → buffer ≡ sets (replicate 2330 0) 0 (line_numbers (read_line fifo text)) → read_as stored version text ≡ by (at buffer)
   unfolding read_as
   read-yes text fifo count buffer e f g = ap (λ (b : Bool). voice_from stored version (read_line b text)) (sym e) ∙ go (read_line fifo text) refl
     where
@@ -60,15 +66,15 @@ module _ (stored : Bool) (version : SguVersion) where
           let there : buffer ≡ sets (replicate 2330 0) 0 ns = g ∙ ap (λ (r : ReadLine). sets (replicate 2330 0) 0 (line_numbers r)) q in
           let same : (k : ℕ) → at ns k ≡ at buffer k = λ k. sym (ap (λ (l : List ℕ). at l k) there ∙ found 2330 ns (read-good fifo text ns q).size k) in
           ap (voice_from stored version) q ∙ (λ i. by (λ k. same k i))
-      go (malformed ns field) q = let z : Count count ≡ Malformed field = f ∙ ap fields_of q in (cc)
+      go (malformed ns field) q = let z : Ok count ≡ Err (Malformed field) = f ∙ ap fields_of q in (cc)
 
-  pub read_no : (text : List ℕ) (fifo : Bool) (field : ℕ) → fifo ≡ has3ws8pna version → Malformed field ≡ fields_of (read_line fifo text) → read_as stored version text ≡ lines.malformed field
+  pub read_no : (text : List ℕ) (fifo : Bool) (x : FieldError) → fifo ≡ has3ws8pna version → Err x ≡ fields_of (read_line fifo text) → read_as stored version text ≡ lines.malformed (field_of x)
   unfolding read_as
-  read_no text fifo field e f = ap (λ (b : Bool). voice_from stored version (read_line b text)) (sym e) ∙ go (read_line fifo text) refl
+  read_no text fifo (Malformed field) e f = ap (λ (b : Bool). voice_from stored version (read_line b text)) (sym e) ∙ go (read_line fifo text) refl
     where
       go : (r : ReadLine) → read_line fifo text ≡ r → voice_from stored version (read_line fifo text) ≡ lines.malformed field
-      go (line ns) q = let z : Malformed field ≡ Count (length ns) = f ∙ ap fields_of q in (cc)
-      go (malformed ns other) q = let z : Malformed field ≡ Malformed other = f ∙ ap fields_of q in let w : lines.malformed other ≡ lines.malformed field = cc in ap (voice_from stored version) q ∙ w
+      go (line ns) q = let z : Err (Malformed field) ≡ Ok (length ns) = f ∙ ap fields_of q in (cc)
+      go (malformed ns other) q = let z : Err (Malformed field) ≡ Err (Malformed other) = f ∙ ap fields_of q in let w : lines.malformed other ≡ lines.malformed field = cc in ap (voice_from stored version) q ∙ w
 
   module _ (f : ℕ → ℕ) (queue : Fifo) (q : queue ≡ queue_told stored version f) where
     not-allowed : allows_fifo version queue ≡ false → by f ≡ lines.queued
@@ -79,12 +85,12 @@ module _ (stored : Bool) (version : SguVersion) where
         ap (λ (b : Bool). cond b (voice (voice_of f (queue_told stored version f))) lines.queued) (ap (allows_fifo version) (sym q) ∙ e)
         ∙ ap (λ (g : Fifo). voice (voice_of f g)) (sym q)
 
-    pub told-queued : allows_fifo version queue ≡ false → told.Queued ≡ told_of (by f)
+    pub told-queued : allows_fifo version queue ≡ false → Err told.Queued ≡ told_of (by f)
     told-queued e = sym (ap told_of (not-allowed e))
 
-    pub told-yes : (n : ℕ) → allows_fifo version queue ≡ true → n ≡ f 0 → told.Voice n ≡ told_of (by f)
+    pub told-yes : (n : ℕ) → allows_fifo version queue ≡ true → n ≡ f 0 → Ok n ≡ told_of (by f)
     unfolding voice_of
-    told-yes n e h = ap told.Voice h ∙ ap told_of (sym (allowed e))
+    told-yes n e h = ap Ok h ∙ ap told_of (sym (allowed e))
 
     pub after-queued : (c : Channel) (w : List ℕ) (l : List ℤ) → allows_fifo version queue ≡ false → (c ≡ channel_after (by f) c) × ((w ≡ table_after (by f) w) × (l ≡ queue_after (by f) l))
     after-queued c w l e = let z = sym (not-allowed e) in (ap (λ (s : ReadVoice). channel_after s c) z, (ap (λ (s : ReadVoice). table_after s w) z, ap (λ (s : ReadVoice). queue_after s l) z))
@@ -180,5 +186,5 @@ write-yes number c w q out after ns r h e x y =
     let t : line_text ns ≡ voice_text number c w q = ap line_text e ∙ sym (text-is number c w q h) in
     (x ∙ ap (written_of out) t, y ∙ ap (put_of out) t)
 
-pub write-none : (number : ℕ) (c : Channel) (w : List ℕ) (q : List ℤ) (out : List ℕ) → chip_voices ≤ number → (Length 0 ≡ written_of out (voice_text number c w q)) × (out ≡ put_of out (voice_text number c w q))
+pub write-none : (number : ℕ) (c : Channel) (w : List ℕ) (q : List ℤ) (out : List ℕ) → chip_voices ≤ number → (Ok 0 ≡ written_of out (voice_text number c w q)) × (out ≡ put_of out (voice_text number c w q))
 write-none number c w q out h = rw (text-none number c w q h, le-leb 0 (length out) (omega arith)) (refl, refl)

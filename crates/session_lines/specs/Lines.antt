@@ -1,5 +1,5 @@
 -- A voice line written, and what reading one does.
-use Rattle.std.specs.Prelude.{Bool, true, false, cond, List, [], ◌∷◌, ℕ, ltb, ℤ}
+use Rattle.std.specs.Prelude.{Bool, true, false, cond, List, [], ◌∷◌, ℕ, ltb, ℤ, Result, Ok, Err}
 use Rattle.std.proofs.lemmas.List.Edits.{sets}
 use Rattle.cores.specs.Sizes.{chip_voices}
 use Rattle.line_fields.specs.Text.{line_text}
@@ -12,9 +12,11 @@ use Rattle.registers.specs.declared.Fifo.{Fifo}
 use Rattle.stream.specs.Cache.{emptied}
 use Rattle.voice.specs.Channel.{set_fifo, set_stream}
 use Rattle.voice.specs.declared.Channel.{Channel}
+use Rattle.line_fields.specs.declared.FieldError.{FieldError}
+use Rattle.line_fields.specs.declared.FieldError.TheVariants as fault
+use Rattle.session_lines.specs.declared.VoiceError.{VoiceError}
+use Rattle.session_lines.specs.declared.VoiceError.TheVariants as told
 use Rattle.session_lines.specs.Numbers.{at, field_numbers, queued_of, fifo_of, channel_from, table_of, queued_samples}
-use Rattle.session_lines.specs.declared.VoiceLine.{VoiceLine}
-use Rattle.session_lines.specs.declared.VoiceLine.TheVariants as told
 
 -- a voice with its own wavetable and its queue as a list: what a line tells of
 pub record NumberedVoice : Type 0 where
@@ -56,8 +58,12 @@ queue_told stored version f = cond stored (kept_fifo version (fifo_of f)) (fifo_
 abbrev pub voice_taken : SguVersion → (ℕ → ℕ) → Fifo → ReadVoice
 voice_taken version f queue = cond (allows_fifo version queue) (voice (voice_of f queue)) queued
 
+-- the voice that a line's numbers tell
+abbrev pub voice_in : Bool → SguVersion → List ℕ → ReadVoice
+voice_in stored version ns = voice_taken version (at ns) (queue_told stored version (at ns))
+
 abbrev pub voice_from : Bool → SguVersion → ReadLine → ReadVoice
-voice_from stored version (line ns) = voice_taken version (at ns) (queue_told stored version (at ns))
+voice_from stored version (line ns) = voice_in stored version ns
 voice_from stored version (lines.malformed ns field) = malformed field
 
 -- a line read, as a stored one or as any
@@ -70,11 +76,19 @@ read_voice version text = read_as false version text
 abbrev pub read_stored : SguVersion → List ℕ → ReadVoice
 read_stored version text = read_as true version text
 
+-- the number of the voice that a line tells of, or what refuses it
+abbrev pub VoiceLine : Type 0
+VoiceLine = Result ℕ VoiceError
+
+-- a field at fault refuses the voice
+abbrev pub refused_voice : FieldError → VoiceError
+refused_voice (fault.Malformed field) = told.Malformed field
+
 -- what the voice's number, channel, wavetable and queue entries are then
 abbrev pub told_of : ReadVoice → VoiceLine
-told_of (voice v) = told.Voice v.number
-told_of (malformed field) = told.Malformed field
-told_of queued = told.Queued
+told_of (voice v) = Ok v.number
+told_of (malformed field) = Err (told.Malformed field)
+told_of queued = Err told.Queued
 
 abbrev pub channel_after : ReadVoice → Channel → Channel
 channel_after (voice v) c = v.channel
@@ -93,9 +107,9 @@ queue_after queued q = q
 
 -- the number of an answer in documents 01 and 02, and the field at fault
 abbrev pub voice_line_number : VoiceLine → List ℕ
-voice_line_number (told.Voice n) = []
-voice_line_number (told.Malformed field) = 16 ∷ field ∷ []
-voice_line_number told.Queued = 23 ∷ []
+voice_line_number (Ok n) = []
+voice_line_number (Err (told.Malformed field)) = 16 ∷ field ∷ []
+voice_line_number (Err told.Queued) = 23 ∷ []
 
 -- of a line that was read
 unfoldable pub voice_refusal : ReadVoice → List ℕ

@@ -5,95 +5,79 @@ ghost use Rattle.line_fields.specs.Text.{written_of, put_of, written_number, roo
 ghost use Rattle.decimal.specs.Read.{natural_at};
 ghost use Rattle.session_lines.specs.Head.{head_text, has_magic as is_named, sized_head, behind_version, read_head, head_line_number, head_refusal};
 
-use crate::HeadLine;
-use decimal::TakenNatural;
-use line_fields::Written;
+use crate::SessionHead;
+use line_fields::{FieldError, RoomError};
 use version::SguVersion;
 
 // Writes the head of a chip over a RAM of a length, if there is room for it.
-pub fn write_head(version: SguVersion, size: usize, out: &mut [u8]) -> Written
+pub fn write_head(version: SguVersion, size: usize, out: &mut [u8]) -> Result<usize, RoomError>
     ensures result { result ≡ written_of out.old (head_text version size) }
     ensures out { out.new ≡ put_of out.old (head_text version size) }
     ensures number { written_number result ≡ room_refusal out.old (head_text version size) }
 {
     let width = decimal::natural_width(size as u64);
     if out.len() < 8 + width {
-        return Written::TextBuffer;
+        return Err(RoomError::TextBuffer);
     }
-    let number = version.number();
+    let number = u8::from(version);
     let first = decimal::put_text(out, 0, b"S3W2,");
     let second = decimal::put_byte(out, first, 48 + number);
     let third = decimal::put_byte(out, second, b',');
     let fourth = decimal::put_natural(out, third, size as u64);
-    Written::Length(decimal::put_byte(out, fourth, 10))
+    Ok(decimal::put_byte(out, fourth, 10))
 }
 
 fn named(text: &[u8]) -> bool
     ensures { result ≡ is_named text.now }
 {
-    if num::byte_at(text, 0) != b'S' {
-        return false;
-    }
-    if num::byte_at(text, 1) != b'3' {
-        return false;
-    }
-    if num::byte_at(text, 2) != b'W' {
-        return false;
-    }
-    num::byte_at(text, 3) == b'2'
+    text.starts_with(b"S3W2")
 }
 
 // The head whose third field stands at `at`: an allowed RAM length.
-fn sized(text: &[u8], version: SguVersion, at: usize) -> HeadLine
+fn sized(text: &[u8], version: SguVersion, at: usize) -> Result<SessionHead, FieldError>
     ensures { result ≡ sized_head text.now version (natural_at text.now at) }
 {
-    let taken = decimal::take_natural(text, at);
-    let TakenNatural::Natural { value, next } = taken else {
-        return HeadLine::Malformed(3);
-    };
+    let (value, next) = decimal::take_natural(text, at).ok_or(FieldError::Malformed(3))?;
     let size = value as usize;
     if !tone::is_ram_length(size) {
-        return HeadLine::Malformed(3);
+        return Err(FieldError::Malformed(3));
     }
     if !line_fields::closed(text, next) {
-        return HeadLine::Malformed(4);
+        return Err(FieldError::Malformed(4));
     }
-    HeadLine::Sized { version, size }
+    Ok(SessionHead::Sized { version, size })
 }
 
 // The head whose version's numeral ends before `next`.
-fn versioned(text: &[u8], version: SguVersion, next: usize) -> HeadLine
+fn versioned(text: &[u8], version: SguVersion, next: usize) -> Result<SessionHead, FieldError>
     ensures { result ≡ behind_version text.now version next }
 {
     if num::byte_at(text, next) == 44 {
         return sized(text, version, next + 1);
     }
     if !line_fields::closed(text, next) {
-        return HeadLine::Malformed(3);
+        return Err(FieldError::Malformed(3));
     }
-    HeadLine::Version(version)
+    Ok(SessionHead::Version(version))
 }
 
 // What a head is: its version, the RAM's length too if it has three fields, or the first field at fault.
-pub fn read_head(text: &[u8]) -> HeadLine
+pub fn read_head(text: &[u8]) -> Result<SessionHead, FieldError>
     ensures result { result ≡ read_head text.now }
     ensures number { head_line_number result ≡ head_refusal text.now }
 {
     if !named(text) {
-        return HeadLine::Malformed(1);
+        return Err(FieldError::Malformed(1));
     }
     if num::byte_at(text, 4) != 44 {
         if line_fields::ends_at(text, 4) {
-            return HeadLine::Malformed(2);
+            return Err(FieldError::Malformed(2));
         }
-        return HeadLine::Malformed(1);
+        return Err(FieldError::Malformed(1));
     }
-    let taken = decimal::take_natural(text, 5);
-    let TakenNatural::Natural { value, next } = taken else {
-        return HeadLine::Malformed(2);
-    };
+    let (value, next) = decimal::take_natural(text, 5).ok_or(FieldError::Malformed(2))?;
     if (sizes::LAST_VERSION as u64) < value {
-        return HeadLine::Malformed(2);
+        return Err(FieldError::Malformed(2));
     }
-    versioned(text, SguVersion::numbered(value), next)
+    versioned(text, SguVersion::from(value), next)
 }

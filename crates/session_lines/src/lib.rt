@@ -1,29 +1,41 @@
 // The lines of a session text: a head or a voice line, written and read.
 #![tactic(auto)]
 
+ghost use Rattle.std.specs.Prelude.{◌≡◌};
+ghost use Rattle.session_lines.specs.Lines.{refused_voice};
+
 mod head;
 mod reading;
 mod states;
 mod writing;
 
 pub use head::{read_head, write_head};
+use line_fields::FieldError;
 pub use reading::{check_voice, read_voice};
 use version::SguVersion;
 pub use writing::write_voice;
 
-// What a voice line is: that of a voice, or malformed at a field, counted from 1, or that of a voice with something in its
-// queue on a chip without a FIFO.
-#[derive(Clone, Copy)]
-pub enum VoiceLine {
-    Voice(usize),
+// What refuses a voice line: a field, by its number from 1, that is missing, malformed or out of range; or something in the
+// queue of a voice on a chip without a FIFO.
+#[derive(Clone, Copy, PartialEq, Eq, Debug)]
+pub enum VoiceError {
     Malformed(usize),
     Queued,
 }
 
-// What a head is: a version, or a version and the length of the RAM, or malformed at a field.
+impl From<FieldError> for VoiceError {
+    ghost from_gives = { λ field e. e ≡ refused_voice field };
+
+    fn from(error: FieldError) -> VoiceError {
+        match error {
+            FieldError::Malformed(field) => VoiceError::Malformed(field),
+        }
+    }
+}
+
+// What a head is: a version, or a version and the length of the RAM.
 #[derive(Clone, Copy)]
-pub enum HeadLine {
+pub enum SessionHead {
     Version(SguVersion),
     Sized { version: SguVersion, size: usize },
-    Malformed(usize),
 }

@@ -2,97 +2,84 @@
 ghost use Rattle.std.specs.Prelude.{◌≡◌};
 ghost use Rattle.std.proofs.lemmas.List.Edits.{sets};
 ghost use Rattle.session_lines.specs.Numbers.{at, table_of, queued_samples};
-ghost use Rattle.session_lines.specs.Lines.{queue_told, voice_taken, read_as, told_of, channel_after, table_after, queue_after};
+ghost use Rattle.session_lines.specs.Lines.{queue_told, voice_in, read_as, told_of, channel_after, table_after, queue_after};
 ghost use Rattle.session_lines.specs.Lines.{voice_line_number, voice_refusal};
 
-use crate::VoiceLine;
-use crate::states::{byte, channel_of, fifo_of, sample};
-use line_fields::Fields;
+use crate::VoiceError;
+use crate::states::LineNumbers;
 use registers::Fifo;
 use version::SguVersion;
 use voice::Channel;
 
-fn queue_told(stored: bool, version: SguVersion, numbers: &[u64]) -> Fifo
-    ensures { result ≡ queue_told stored version (at numbers.now) }
+fn queue_told(line: LineNumbers) -> Fifo
+    ensures { result ≡ queue_told line.entry.stored line.entry.version (at line.entry.numbers.now) }
 {
-    let queue = fifo_of(numbers);
-    if stored {
-        return queue.kept(version);
+    let queue = line.fifo();
+    if line.stored {
+        return queue.kept(line.version);
     }
     queue
 }
 
-fn told(stored: bool, version: SguVersion, numbers: &[u64]) -> VoiceLine
-    ensures { result ≡ told_of (voice_taken version (at numbers.now) (queue_told stored version (at numbers.now))) }
+fn told(line: LineNumbers) -> Result<usize, VoiceError>
+    ensures { result ≡ told_of (voice_in line.entry.stored line.entry.version line.entry.numbers.now) }
 {
-    let queue = queue_told(stored, version, numbers);
-    if !queue.is_allowed(version) {
-        return VoiceLine::Queued;
+    let queue = queue_told(line);
+    if !queue.is_allowed(line.version) {
+        return Err(VoiceError::Queued);
     }
-    VoiceLine::Voice(line_fields::number_at(numbers, 0) as usize)
+    Ok(line.voice())
 }
 
+// Kept as it is: a caller has the flag and the version apart, so a struct of both would be made anew for each call.
 // What a line of a session text is: that of a voice, or the first field at fault, or a queue that the version does not have.
-pub fn check_voice(stored: bool, version: SguVersion, text: &[u8]) -> VoiceLine
+pub fn check_voice(stored: bool, version: SguVersion, text: &[u8]) -> Result<usize, VoiceError>
     ensures result { result ≡ told_of (read_as stored version text.now) }
     ensures number { voice_line_number result ≡ voice_refusal (read_as stored version text.now) }
 {
     let mut numbers = [0u64; 2330];
-    let fields = line_fields::read_line(version.has_3ws8pna(), text, &mut numbers);
-    match fields {
-        Fields::Count(_) => told(stored, version, &numbers),
-        Fields::Malformed(field) => VoiceLine::Malformed(field),
-    }
+    line_fields::read_line(version.has_3ws8pna(), text, &mut numbers)?;
+    told(LineNumbers {
+        stored,
+        version,
+        numbers: &numbers,
+    })
 }
 
-// The wavetable of a line's numbers, as far as there is room.
-fn take_table(numbers: &[u64], wavetable: &mut [u8])
-    ensures { wavetable.new ≡ sets wavetable.old 0 (table_of (at numbers.now)) }
+// The wavetable of a line, as far as there is room.
+fn take_table(line: LineNumbers, wavetable: &mut [u8])
+    ensures { wavetable.new ≡ sets wavetable.old 0 (table_of (at line.entry.numbers.now)) }
 {
     let end = num::least(wavetable.len(), 256);
-    let mut i = 0;
-    while i < end {
-        wavetable[i] = byte(numbers, 25 + i);
-        i += 1;
+    for i in 0..end {
+        wavetable[i] = line.byte(25 + i);
     }
 }
 
-// The first samples of a line's numbers, as far as there is room.
-fn take_samples(numbers: &[u64], count: usize, queue: &mut [i16])
-    ensures { queue.new ≡ sets queue.old 0 (queued_samples (at numbers.now) count) }
+// The first samples of a line, as far as there is room.
+fn take_samples(line: LineNumbers, count: usize, queue: &mut [i16])
+    ensures { queue.new ≡ sets queue.old 0 (queued_samples (at line.entry.numbers.now) count) }
 {
     let end = num::least(queue.len(), count);
-    let mut i = 0;
-    while i < end {
-        queue[i] = sample(numbers, 282 + i);
-        i += 1;
+    for i in 0..end {
+        queue[i] = line.sample(282 + i);
     }
 }
 
-// The channel that a line's numbers make of c.
-fn take_voice(
-    c: Channel,
-    stored: bool,
-    version: SguVersion,
-    numbers: &[u64],
-    wavetable: &mut [u8],
-    queue: &mut [i16],
-) -> Channel
-    ensures result { result ≡ channel_after (voice_taken version (at numbers.now)
-        (queue_told stored version (at numbers.now))) c }
-    ensures wavetable { wavetable.new ≡ table_after (voice_taken version (at numbers.now)
-        (queue_told stored version (at numbers.now))) wavetable.old }
-    ensures queue { queue.new ≡ queue_after (voice_taken version (at numbers.now)
-        (queue_told stored version (at numbers.now))) queue.old }
+// The channel that a line makes of c.
+fn take_voice(c: Channel, line: LineNumbers, wavetable: &mut [u8], queue: &mut [i16]) -> Channel
+    ensures result { result ≡ channel_after (voice_in line.entry.stored line.entry.version line.entry.numbers.now) c }
+    ensures wavetable { wavetable.new ≡ table_after (voice_in line.entry.stored line.entry.version line.entry.numbers.now) wavetable.old }
+    ensures queue { queue.new ≡ queue_after (voice_in line.entry.stored line.entry.version line.entry.numbers.now) queue.old }
 {
-    let told = queue_told(stored, version, numbers);
-    if !told.is_allowed(version) {
+    let told = queue_told(line);
+    if !told.is_allowed(line.version) {
         return c;
     }
     let count = told.count;
-    take_table(numbers, wavetable);
-    take_samples(numbers, count, queue);
-    channel_of(numbers, told)
+    take_table(line, wavetable);
+    take_samples(line, count, queue);
+    line.channel(told)
 }
 
 // The channel that a line's voice becomes; its wavetable and its queue's first entries are put into the parts lent. A line
@@ -112,7 +99,16 @@ pub fn read_voice(
     let mut numbers = [0u64; 2330];
     let fields = line_fields::read_line(version.has_3ws8pna(), text, &mut numbers);
     match fields {
-        Fields::Count(_) => take_voice(c, stored, version, &numbers, wavetable, queue),
-        Fields::Malformed(_) => c,
+        Ok(_) => take_voice(
+            c,
+            LineNumbers {
+                stored,
+                version,
+                numbers: &numbers,
+            },
+            wavetable,
+            queue,
+        ),
+        Err(_) => c,
     }
 }

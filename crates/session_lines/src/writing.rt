@@ -8,38 +8,32 @@ ghost use Rattle.session_lines.specs.Lines.{voice_text};
 
 use crate::states::state_numbers;
 use cores::CHIP_VOICES;
-use line_fields::{Written, put_number};
+use line_fields::{RoomError, put_number};
 use registers::Fifo;
 use sizes::FIFO_CAPACITY;
 use voice::Channel;
 
-// Puts some numbers at a buffer's beginning.
+// Puts some numbers at a buffer's beginning, as far as there is room.
 fn put_first(first: &[u64], numbers: &mut [u64])
     ensures { numbers.new ≡ sets numbers.old 0 first.now }
 {
-    let mut i = 0;
-    while i < first.len() {
-        put_number(numbers, i, first[i]);
-        i += 1;
-    }
+    let count = num::least(first.len(), numbers.len());
+    numbers[..count].copy_from_slice(&first[..count]);
 }
 
 // The 256 bytes of a wavetable; those past its end are 0.
 fn put_table(wavetable: &[u8], numbers: &mut [u64])
     ensures { numbers.new ≡ sets numbers.old 25 (table_numbers wavetable.now) }
 {
-    let mut i = 0;
-    while i < 256 {
+    for i in 0..256 {
         put_number(numbers, 25 + i, num::byte_at(wavetable, i) as u64);
-        i += 1;
     }
 }
 
 fn entry(queue: &[i16], at: usize) -> i16
     ensures { result ≡ get_or queue.now (at % fifo_capacity) (pos 0) }
 {
-    let i = at % FIFO_CAPACITY;
-    if i < queue.len() { queue[i] } else { 0 }
+    queue.get(at % FIFO_CAPACITY).copied().unwrap_or(0)
 }
 
 // The queue's count and its samples, oldest first; answers the count.
@@ -50,11 +44,9 @@ fn put_queue(f: Fifo, queue: &[i16], numbers: &mut [u64]) -> usize
     let count = num::least(f.count, FIFO_CAPACITY);
     let head = f.head % FIFO_CAPACITY;
     put_number(numbers, 281, count as u64);
-    let mut i = 0;
-    while i < count {
+    for i in 0..count {
         let sample = entry(queue, head + i);
         put_number(numbers, 282 + i, num::bits16(sample) as u64);
-        i += 1;
     }
     count
 }
@@ -66,13 +58,13 @@ pub fn write_voice(
     wavetable: &[u8],
     queue: &[i16],
     out: &mut [u8],
-) -> Written
+) -> Result<usize, RoomError>
     ensures result { result ≡ written_of out.old (voice_text voice c wavetable.now queue.now) }
     ensures out { out.new ≡ put_of out.old (voice_text voice c wavetable.now queue.now) }
     ensures number { written_number result ≡ room_refusal out.old (voice_text voice c wavetable.now queue.now) }
 {
     if CHIP_VOICES <= voice {
-        return Written::Length(0);
+        return Ok(0);
     }
     let mut numbers = [0u64; 2330];
     let f = c.fifo;

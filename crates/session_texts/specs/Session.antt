@@ -1,13 +1,14 @@
 -- A session's lines over the fields of plain voices.
-use Rattle.std.specs.Prelude.{List, ℕ}
+use Rattle.std.specs.Prelude.{List, ℕ, Ok, Err}
 use Rattle.session_lines.specs.Head as heads
 use Rattle.session_lines.specs.Lines.{NumberedVoice, voice_text, ReadVoice, voice, malformed, queued, read_voice, read_stored}
-use Rattle.session_lines.specs.declared.HeadLine.{HeadLine}
-use Rattle.session_lines.specs.declared.HeadLine.TheVariants.{Version, Sized, Malformed}
 use Rattle.plain_chip.specs.Voices.{PlainVoice}
 use Rattle.slots.specs.Slots.{channel_with}
 use Rattle.call_lists.specs.Texts as texts
 use Rattle.call_lists.specs.Texts.{Texts, VoiceRead, HeadRead}
+use Rattle.session_lines.specs.Head.{HeadLine}
+use Rattle.session_lines.specs.declared.SessionHead.TheVariants.{Version, Sized}
+use Rattle.line_fields.specs.declared.FieldError.TheVariants.{Malformed}
 
 -- the fields that a line tells
 abbrev pub plain_voice_of : NumberedVoice → PlainVoice
@@ -29,9 +30,9 @@ voice_read (malformed field) = VoiceRead.faulty field
 voice_read queued = VoiceRead.queued
 
 abbrev pub head_read : HeadLine → HeadRead
-head_read (Version version) = texts.head version
-head_read (Sized version size) = texts.sized version size
-head_read (Malformed field) = HeadRead.faulty field
+head_read (Ok (Version version)) = texts.head version
+head_read (Ok (Sized version size)) = texts.sized version size
+head_read (Err (Malformed field)) = HeadRead.faulty field
 
 abbrev pub session : Texts
 session = record {

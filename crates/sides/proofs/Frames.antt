@@ -2,17 +2,17 @@
 use mathlib.Core.Path.{◌≡◌, refl, sym, ap, ◌∙◌}
 use mathlib.Core.Bool.{Bool, cond}
 use mathlib.Core.List.{List, [], ◌++◌}
-use Prim.Native.Nat.{ℕ, zero, suc, ◌+◌, ◌-◌, ◌*◌, ◌/◌, ◌≤◌, ◌<◌, min}
+use Prim.Native.Nat.{ℕ, zero, suc, ◌+◌, ◌*◌, ◌≤◌, ◌<◌}
 use native.Mathlib.Omega.{arith}
 use lib.Dec.{leb}
 use lib.IntN.{ℤ, pos, ◌+ℤ◌}
-use lib.ListN.{length, get_or, take, drop, replicate, length-drop, length-append, get_or-append}
-use lib.Seq.{get_or-drop, take_all, drop_at}
+use lib.ListN.{length, get_or, drop, replicate, length-drop, length-append, get_or-append}
+use lib.Seq.{get_or-drop, drop_at}
 use borrow.Author.Tests.{le-leb, lt-leb, leb-true, leb-false}
 use Rattle.sizes.specs.Sizes.{num_channels, stems_per_frame}
 use Rattle.num.proofs.Choice.{cond-by}
 use Rattle.num.proofs.Integers.{z-eq, z-add}
-use Rattle.sides.specs.Sides.{side_sum, side_of, added_to}
+use Rattle.sides.specs.Sides.{side_sum, side_of, added}
 
 -- ---- the frames that the second core has, and those that it has not
 module _ (stems others : List ℤ) (hand n : ℕ) where
@@ -36,11 +36,11 @@ unfolding side_of
 side-by P stems others hand n f g = cond-by P (leb (stems_per_frame * (n + 1)) (length others)) _ _ (λ e. f (leb-true _ _ e)) (λ e. g (leb-false _ _ e))
 
 -- ---- sides whose frames are the same
-pub added-same : (plus : ℤ → ℤ → ℤ) (a b c d : List ℤ) (hand first : ℕ) (side : List ℤ) (n : ℕ) → ((i : ℕ) → i < n → side_of i hand a b ≡ side_of i hand c d)
-    → added_to plus n a b hand first side ≡ added_to plus n c d hand first side
-unfolding added_to
-added-same plus a b c d hand first side zero h = refl
-added-same plus a b c d hand first side (suc n) h = rw (added-same plus a b c d hand first side n (λ i k. h i (omega arith)), h n (omega arith)) refl
+pub added-same : {A : Type 0} (none : A) (plus : A → ℤ → A) (a b c d : List ℤ) (hand first : ℕ) (side : List A) (n : ℕ) → ((i : ℕ) → i < n → side_of i hand a b ≡ side_of i hand c d)
+    → added none plus n a b hand first side ≡ added none plus n c d hand first side
+unfolding added
+added-same none plus a b c d hand first side zero h = refl
+added-same none plus a b c d hand first side (suc n) h = rw (added-same none plus a b c d hand first side n (λ i k. h i (omega arith)), h n (omega arith)) refl
 
 -- ---- a second core whose stems are zeros, however many
 plus_none : (z : ℤ) → z +ℤ pos 0 ≡ z
@@ -56,10 +56,10 @@ unfolding side_sum
 sum_zeros k zero from = refl
 sum_zeros k (suc n) from = rw (sum_zeros k n from, zeros k (from + 2 * n)) refl
 
-module _ (plus : ℤ → ℤ → ℤ) (stems : List ℤ) (hand first : ℕ) (side : List ℤ) (n : ℕ) where
-  pub added-silent : (k : ℕ) → added_to plus n stems (replicate k (pos 0)) hand first side ≡ added_to plus n stems [] hand first side
+module _ {A : Type 0} (none : A) (plus : A → ℤ → A) (stems : List ℤ) (hand first : ℕ) (side : List A) (n : ℕ) where
+  pub added-silent : (k : ℕ) → added none plus n stems (replicate k (pos 0)) hand first side ≡ added none plus n stems [] hand first side
   added-silent k =
-      added-same plus stems (replicate k (pos 0)) stems [] hand first side n
+      added-same none plus stems (replicate k (pos 0)) stems [] hand first side n
       (λ i h. side-by (λ (z : ℤ). z ≡ mine stems [] hand i) stems (replicate k (pos 0)) hand i (λ _. rw (sum_zeros k num_channels (stems_per_frame * i + hand)) (plus_none _)) (λ _. refl)
       ∙ sym (side-alone stems [] hand i (omega arith)))
 
@@ -80,36 +80,16 @@ module _ (a b : List ℤ) (hand m : ℕ) where
       (λ h. rw (f a, f b) (sym (side-both (drop (stems_per_frame * m) a) (drop (stems_per_frame * m) b) hand k (rw (length-drop (stems_per_frame * m) b) (omega (arith, h))))))
       (λ h. rw (f a) (sym (side-alone (drop (stems_per_frame * m) a) (drop (stems_per_frame * m) b) hand k (rw (length-drop (stems_per_frame * m) b) (omega (arith, h))))))
 
-  pub added_more : (plus : ℤ → ℤ → ℤ) (first : ℕ) (side : List ℤ) (k : ℕ)
-      → added_to plus (m + k) a b hand first side ≡ added_to plus k (drop (stems_per_frame * m) a) (drop (stems_per_frame * m) b) hand (first + m) (added_to plus m a b hand first side)
-  unfolding added_to
-  added_more plus first side zero =
+  pub added_more : {A : Type 0} (none : A) (plus : A → ℤ → A) (first : ℕ) (side : List A) (k : ℕ)
+      → added none plus (m + k) a b hand first side ≡ added none plus k (drop (stems_per_frame * m) a) (drop (stems_per_frame * m) b) hand (first + m) (added none plus m a b hand first side)
+  unfolding added
+  added_more none plus first side zero =
       let e : m + 0 ≡ m = omega arith in
-      ap (λ (n : ℕ). added_to plus n a b hand first side) e
-  added_more plus first side (suc k) =
+      ap (λ (n : ℕ). added none plus n a b hand first side) e
+  added_more none plus first side (suc k) =
       let e : m + suc k ≡ suc (m + k) = omega arith in
       let f : first + (m + k) ≡ first + m + k = omega arith in
-      ap (λ (n : ℕ). added_to plus n a b hand first side) e ∙ rw (f, added_more plus first side k, side-drop k) refl
-
--- the frames that both cores have, then those of the first alone
-module _ (plus : ℤ → ℤ → ℤ) (stems others : List ℤ) (hand first : ℕ) (side : List ℤ) (count both : ℕ) (e : both ≡ min count (length others / stems_per_frame)) where
-  abbrev rest : List ℤ → List ℤ
-  rest l = drop (stems_per_frame * both) l
-
-  silent : (i : ℕ) → i < count - both → side_of i hand (rest stems) [] ≡ side_of i hand (rest stems) (rest others)
-  silent i h =
-      let d = length-drop (stems_per_frame * both) others in
-      side-alone (rest stems) [] hand i (omega arith) ∙ sym (side-alone (rest stems) (rest others) hand i (omega arith))
-
-  pub added-parts : (middle out : List ℤ) → middle ≡ added_to plus both stems others hand first side
-      → out ≡ added_to plus (count - both) (take (length stems - stems_per_frame * both) (rest stems)) [] hand (first + both) middle → out ≡ added_to plus count stems others hand first side
-  added-parts middle out h k =
-      let w : both + (count - both) ≡ count = omega arith in
-      let d = length-drop (stems_per_frame * both) stems in
-      k ∙ ap (λ (l : List ℤ). added_to plus (count - both) l [] hand (first + both) middle) (take_all (length stems - stems_per_frame * both) (rest stems) (omega arith))
-      ∙ ap (added_to plus (count - both) (rest stems) [] hand (first + both)) h
-      ∙ added-same plus (rest stems) [] (rest stems) (rest others) hand (first + both) (added_to plus both stems others hand first side) (count - both) silent
-      ∙ sym (added_more stems others hand both plus first side (count - both)) ∙ ap (λ (n : ℕ). added_to plus n stems others hand first side) w
+      ap (λ (n : ℕ). added none plus n a b hand first side) e ∙ rw (f, added_more none plus first side k, side-drop k) refl
 
 -- ---- stems with more after them
 sum_first : (l r : List ℤ) (from n : ℕ) → from + 2 * n ≤ length l + 1 → side_sum n (l ++ r) from ≡ side_sum n l from
@@ -126,8 +106,8 @@ module _ (a more b others : List ℤ) (hand m : ℕ) (one : hand ≤ 1) (ea : le
       ∙ sym (side-both a b hand i (omega arith))
 
   -- m frames and then k
-  pub added-append : (plus : ℤ → ℤ → ℤ) (first : ℕ) (side : List ℤ) (k : ℕ)
-      → added_to plus (m + k) (a ++ more) (b ++ others) hand first side ≡ added_to plus k more others hand (first + m) (added_to plus m a b hand first side)
-  added-append plus first side k =
-      added_more (a ++ more) (b ++ others) hand m plus first side k
-      ∙ rw (drop_at a more (stems_per_frame * m) ea, drop_at b others (stems_per_frame * m) eb, added-same plus (a ++ more) (b ++ others) a b hand first side m side-first) refl
+  pub added-append : {A : Type 0} (none : A) (plus : A → ℤ → A) (first : ℕ) (side : List A) (k : ℕ)
+      → added none plus (m + k) (a ++ more) (b ++ others) hand first side ≡ added none plus k more others hand (first + m) (added none plus m a b hand first side)
+  added-append none plus first side k =
+      added_more (a ++ more) (b ++ others) hand m none plus first side k
+      ∙ rw (drop_at a more (stems_per_frame * m) ea, drop_at b others (stems_per_frame * m) eb, added-same none plus (a ++ more) (b ++ others) a b hand first side m side-first) refl

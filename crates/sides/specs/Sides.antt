@@ -26,12 +26,17 @@ saturating held sum = saturating_add held (clamp16 sum)
 abbrev pub wrapping : ℤ → ℤ → ℤ
 wrapping held sum = wrapping_add held sum
 
--- n frames added from place `first` on
-unfoldable pub added_to : (ℤ → ℤ → ℤ) → ℕ → List ℤ → List ℤ → ℕ → ℕ → List ℤ → List ℤ
-added_to plus zero stems others hand first side = side
-added_to plus (suc n) stems others hand first side =
-    let l = added_to plus n stems others hand first side in
-    set l (first + n) (plus (get_or l (first + n) (pos 0)) (side_of n hand stems others))
+-- n frames added from place `first` on to a side of any numbers, of which one is silent
+module _ {A : Type 0} (silent : A) (plus : A → ℤ → A) where
+  unfoldable pub added : ℕ → List ℤ → List ℤ → ℕ → ℕ → List A → List A
+  added zero stems others hand first side = side
+  added (suc n) stems others hand first side =
+      let l = added n stems others hand first side in
+      set l (first + n) (plus (get_or l (first + n) silent) (side_of n hand stems others))
+
+-- the same of 16 or 32 bits
+abbrev pub added_to : (ℤ → ℤ → ℤ) → ℕ → List ℤ → List ℤ → ℕ → ℕ → List ℤ → List ℤ
+added_to = added (pos 0)
 
 -- stems and room for n frames
 pub record StemRoom (n hand first stems side : ℕ) : Type 0 where

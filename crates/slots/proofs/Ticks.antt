@@ -1,5 +1,6 @@
 -- A tick of a good voice, seen as a plain voice, is the plain tick: the same voice, the same sides and the same value ahead of the volume.
 -- The voice stays good. Assumes nothing.
+use Rattle.std.specs.Prelude.{Option, Some, None}
 use mathlib.Core.Path.{◌≡◌, refl, sym, ap, ◌∙◌, subst}
 use mathlib.Core.Bool.{Bool, true, false, cond, ◌&&◌}
 use mathlib.Core.List.{List}
@@ -39,6 +40,7 @@ use Rattle.ticks.specs.declared.Sound.{Sound}
 use Rattle.ticks.proofs.Ranges.{Good, GoodTick, accepted-oscillator, oscillator-accepted, with-last, wavetable-good, pcm-good, noise-good, dma-good}
 use Rattle.stream.specs.Accepted.{accepts_cache}
 use Rattle.stream.specs.Cache.{stock}
+use Rattle.adpcm.specs.declared.Variant.{Variant}
 use Rattle.stream.specs.File.{source_of, opened_from}
 use Rattle.sqv4.specs.Files.{inspected}
 use Rattle.stream.specs.Tick.{Given, plan_of, played_by, tick_of}
@@ -46,10 +48,6 @@ use Rattle.stream.specs.Plain.{whole_in, whole_read, plain_found, plain_tick}
 use Rattle.stream.specs.Cached.{cached_tick}
 use Rattle.stream.specs.declared.Info.{Info}
 use Rattle.stream.specs.declared.Play.{Play}
-use Rattle.stream.specs.declared.Plan.{Plan}
-use Rattle.stream.specs.declared.Plan.TheVariants.{Stop, Sample}
-use Rattle.stream.specs.declared.Opened.{Opened}
-use Rattle.stream.specs.declared.Opened.TheVariants.{NoFile, File}
 use Rattle.stream.proofs.Accepts.{accepts-free}
 use Rattle.stream.proofs.Same.{tick-same}
 use Rattle.stream.proofs.Keeps.{tick-keeps}
@@ -109,13 +107,13 @@ always : (b : Bool) {x : Bool} → x ≡ true → cond b x true ≡ true
 always true e = e
 always false e = refl
 
-played-phase : (read : Unit {0} → ℕ → Given (Unit {0})) (i : Info) (p : Play) (phase : ℕ) (active : Bool) (plan : Plan) → phase < 2 ^ 64 → (played_by read i p phase active tt plan).phase < 2 ^ 64
-played-phase read i p phase active Stop h = h
-played-phase read i p phase active (Sample at from) h = omega arith
+played-phase : (read : Unit {0} → ℕ → Given (Unit {0})) (i : Info) (p : Play) (phase : ℕ) (active : Bool) (plan : Option (ℕ × ℕ)) → phase < 2 ^ 64 → (played_by read i p phase active tt plan).phase < 2 ^ 64
+played-phase read i p phase active None h = h
+played-phase read i p phase active (Some (at, from)) h = omega arith
 
-found-phase : (whole : List ℤ) (p : Play) (phase : ℕ) (active : Bool) (o : Opened) → phase < 2 ^ 64 → (tick_of p phase active (plain_found whole o)).phase < 2 ^ 64
-found-phase whole p phase active NoFile h = h
-found-phase whole p phase active (File k i) h = played-phase (whole_read whole) i p phase active (plan_of i p phase) h
+found-phase : (whole : List ℤ) (p : Play) (phase : ℕ) (active : Bool) (o : Option (Variant × Info)) → phase < 2 ^ 64 → (tick_of p phase active (plain_found whole o)).phase < 2 ^ 64
+found-phase whole p phase active None h = h
+found-phase whole p phase active (Some (k, i)) h = played-phase (whole_read whole) i p phase active (plan_of i p phase) h
 
 plain-phase : (ram : List ℕ) (p : Play) (phase : ℕ) (active : Bool) → phase < 2 ^ 64 → (plain_tick ram p phase active).phase < 2 ^ 64
 unfolding plain_tick

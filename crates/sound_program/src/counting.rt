@@ -1,15 +1,7 @@
 // The frames of a log, counted before it is played.
 use crate::playing::settled;
-use crate::{FRAMES, Run};
-use program::Input;
+use crate::{FRAMES, Run, State};
 use std::fs::File;
-
-// What is known of a log ahead: its frames, more than any file has where they are not known, or that it is not whole.
-#[derive(Clone, Copy)]
-pub(crate) enum Known {
-    Frames(u64),
-    NotWhole,
-}
 
 // What was read ahead of a log: so many of its first bytes stand in the input buffer, and it has so many frames; more than any file has
 // where they are not known.
@@ -29,28 +21,26 @@ fn counted(log: &mut File, run: Run, input: &mut [u8]) -> Run {
 // Counts the frames of a whole log.
 fn count(log: &mut File, input: &mut [u8]) -> Run {
     let mut run = Run::begun();
-    let mut turns: u64 = 0xffff_ffff_ffff_ffff;
-    while 0 < turns {
-        if run.going {
-            run = counted(&mut *log, run, &mut *input);
-            turns -= 1;
-        } else {
-            turns = 0;
+    for _ in 0..u64::MAX {
+        if run.state != State::Going {
+            break;
         }
+        run = counted(&mut *log, run, &mut *input);
     }
     run
 }
 
-// Where the input can be read again, the log's frames are counted first, so that its length is known ahead.
-pub(crate) fn look_ahead(rt: &HostRuntime, input: &mut [u8]) -> Known {
+// Where the input can be read again, the log's frames are counted first, so that its length is known ahead: its frames, more than any
+// file has where they are not known; none where it is not whole.
+pub(crate) fn look_ahead(rt: &HostRuntime, input: &mut [u8]) -> Option<u64> {
     let Some(mut log) = program::input_again(rt) else {
-        return Known::Frames(wav::UNKNOWN);
+        return Some(wav::UNKNOWN);
     };
     let run = count(&mut log, input);
-    if run.whole {
-        return Known::Frames(run.frames);
+    if run.state == State::Ended {
+        return Some(run.frames);
     }
-    Known::NotWhole
+    None
 }
 
 // The frames of a log that stands in a text; more than any file has where it is not whole.
@@ -80,17 +70,14 @@ fn frames_of(input: &[u8], filled: usize) -> u64 {
 pub(crate) fn read_ahead(rt: &HostRuntime, input: &mut [u8]) -> Ahead {
     let mut filled = 0;
     let mut frames = wav::UNKNOWN;
-    let mut turns = input.len();
-    while 0 < turns {
-        let read = program::read_behind(rt, &mut *input, filled);
-        if let Input::More(more) = read {
-            filled = more;
-            turns -= 1;
-        } else {
-            if let Input::End = read {
+    for _ in 0..input.len() {
+        match program::read_behind(rt, &mut *input, filled) {
+            Ok(Some(more)) => filled = more,
+            Ok(None) => {
                 frames = frames_of(&*input, filled);
+                break;
             }
-            turns = 0;
+            Err(_) => break,
         }
     }
     Ahead { filled, frames }

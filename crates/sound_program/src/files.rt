@@ -1,8 +1,8 @@
 // The files that a program writes: their headers first, then the frames; and what is said.
-use crate::counting::{Ahead, Known, look_ahead, read_ahead};
+use crate::counting::{Ahead, look_ahead, read_ahead};
 use crate::measuring::print_last;
 use crate::playing::play;
-use crate::{Run, Sound};
+use crate::{Run, Sound, State};
 use cores::{CHIP_STEMS, CHIP_VOICES};
 use program::{STDOUT, say};
 use sizes::SAMPLE_RATE;
@@ -107,13 +107,11 @@ fn put_head(
 
 // Writes the header of each file.
 fn put_heads(rt: &HostRuntime, files: Files, place: Option<u64>, frames: u64) -> bool {
-    let mut n = 0;
-    while n < files.count {
+    for n in 0..files.count {
         let descriptor = of_voice(files.first, n);
         if !put_head(rt, descriptor, place, files.channels, frames) {
             return false;
         }
-        n += 1;
     }
     true
 }
@@ -135,16 +133,14 @@ fn cut(rt: &HostRuntime, descriptor: i32, place: u64) {
 
 // A log that was not played whole leaves no file: what was written is cut off again, where that can be done.
 fn undo(rt: &HostRuntime, files: Files, place: u64) {
-    let mut n = 0;
-    while n < files.count {
+    for n in 0..files.count {
         cut(rt, of_voice(files.first, n), place);
-        n += 1;
     }
 }
 
 // The end of a run whose files begin at a place: a header that has not the right length is written again, where that can be done.
 fn ended(rt: &HostRuntime, files: Files, run: Run, place: Option<u64>, known: u64, out: &mut [u8]) {
-    if !run.whole {
+    if run.state != State::Ended {
         if let Some(begin) = place {
             undo(rt, files, begin);
         }
@@ -225,8 +221,7 @@ pub(crate) fn make(
     others: &mut [i16],
     out: &mut [u8],
 ) {
-    let known = look_ahead(rt, &mut *input);
-    if let Known::Frames(frames) = known {
+    if let Some(frames) = look_ahead(rt, &mut *input) {
         let ahead = read_before(rt, sound, waits, frames, &mut *input);
         write(rt, sound, ahead, input, ram, queues, stems, others, out);
     }

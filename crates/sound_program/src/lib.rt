@@ -34,8 +34,16 @@ pub(crate) struct Level {
     pub voices: [u32; 8],
 }
 
+// Whether a log goes on, has come to its end, or is given up.
+#[derive(Clone, Copy, PartialEq, Eq)]
+pub(crate) enum State {
+    Going,
+    Ended,
+    Stopped,
+}
+
 // A log being played: the bytes of the input buffer from `from` to before `filled` are not played yet, and begin with line `number`;
-// `frames` were played. `going` says that it goes on, `whole` that it has come to its end.
+// `frames` were played.
 #[derive(Clone, Copy)]
 pub(crate) struct Run {
     pub level: Level,
@@ -43,8 +51,7 @@ pub(crate) struct Run {
     pub filled: usize,
     pub number: u64,
     pub frames: u64,
-    pub going: bool,
-    pub whole: bool,
+    pub state: State,
 }
 
 // The buffers of frames: the stems of both cores, and bytes to be written.

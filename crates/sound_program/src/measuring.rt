@@ -1,6 +1,6 @@
 // The levels of each tenth of a second, a line each: L, the frames, of the left side the peak, the sum of squares and the overs, the same
 // of the right one, and the peak of each of core 0's eight voices.
-use crate::{FRAMES, Level, Run};
+use crate::{FRAMES, Level, Run, State};
 use levels::SideLevel;
 use program::STDOUT;
 use sizes::STEMS;
@@ -26,7 +26,7 @@ impl Level {
         left: &mut [i32],
         right: &mut [i32],
     ) -> Level {
-        sides::add_i32(stems, others, &mut *left, &mut *right, 0);
+        sides::add(stems, others, &mut *left, &mut *right, 0);
         let first = self.left;
         let second = self.right;
         let voices = self.voices;
@@ -50,10 +50,8 @@ impl Level {
 // The largest sample of each voice of core 0.
 fn voice_peaks(before: [u32; 8], stems: &[i16]) -> [u32; 8] {
     let mut voices = before;
-    let mut channel: usize = 0;
-    while channel < 8 {
+    for channel in 0..8 {
         voices[channel] = levels::voice_peak(voices[channel], stems, channel);
-        channel += 1;
     }
     voices
 }
@@ -114,7 +112,7 @@ fn with_part(run: Run, stems: &[i16], others: &[i16], out: &mut [u8]) -> Run {
     if print_level(more, out) {
         return next;
     }
-    next.stopped(false)
+    next.stopped()
 }
 
 // A run after the frames of its last lines: those that fit the tenth, and those behind them.
@@ -125,7 +123,7 @@ pub(crate) fn measured(run: Run, stems: &[i16], others: &[i16], out: &mut [u8]) 
     let other = num::least(room, others.len());
     let next = with_part(run, &stems[..end], &others[..other], &mut *out);
     if end < stems.len() {
-        if next.going {
+        if next.state == State::Going {
             return with_part(next, &stems[end..], &others[other..], out);
         }
     }

@@ -1,11 +1,11 @@
 // A log played from standard input.
 use crate::files::complain;
 use crate::sounds::sounded;
-use crate::{FRAMES, Level, Run, Sound};
-use log_player::Next;
+use crate::{FRAMES, Level, Run, Sound, State};
+use log_lines::LineFault;
+use log_player::Stop;
 use log_sound::Sounded;
-use program::Input;
-use s3w2::{Answer, Chip};
+use s3w2::{Answer, Chip, Returned};
 use sizes::{SAMPLE_RATE, STEMS};
 use std::io::Read;
 
@@ -18,8 +18,7 @@ impl Run {
             filled: 0,
             number: 1,
             frames: 0,
-            going: true,
-            whole: false,
+            state: State::Going,
         }
     }
 
@@ -30,20 +29,25 @@ impl Run {
         run
     }
 
-    pub(crate) fn stopped(self, whole: bool) -> Run {
+    fn ended(self) -> Run {
         let mut run = self;
-        run.going = false;
-        run.whole = whole;
+        run.state = State::Ended;
+        run
+    }
+
+    pub(crate) fn stopped(self) -> Run {
+        let mut run = self;
+        run.state = State::Stopped;
         run
     }
 }
 
 // Says that the line which is next is bad, and why.
-fn bad(run: Run, why: u8) -> Run {
+fn bad(run: Run, why: LineFault) -> Run {
     let mut text = [0u8; 64];
-    let end = log_lines::put_bad(&mut text, 0, run.number, why);
+    let end = log_lines::put_bad(&mut text, 0, run.number, why.number());
     program::say(num::part(&text, 0, end));
-    run.stopped(false)
+    run.stopped()
 }
 
 // Goes on with more input; where there is none, the log is whole if it ends in byte 10.
@@ -51,28 +55,27 @@ fn refilled<R: Read>(source: &mut R, run: Run, input: &mut [u8]) -> Run {
     let kept = program::keep(&mut *input, run.from, run.filled);
     let read = program::read_from(source, input, kept);
     match read {
-        Input::More(filled) => run.at(0, filled),
-        Input::End => {
+        Ok(Some(filled)) => run.at(0, filled),
+        Ok(None) => {
             if kept == 0 {
-                return run.stopped(true);
+                return run.ended();
             }
-            bad(run, log_lines::MALFORMED)
+            bad(run, LineFault::Malformed)
         }
-        Input::Failed => {
+        Err(_) => {
             complain(b"the input cannot be read\n");
-            run.stopped(false)
+            run.stopped()
         }
     }
 }
 
 // Goes on where no line could be taken.
 fn unplayed<R: Read>(source: &mut R, run: Run, input: &mut [u8]) -> Run {
-    let next = log_sound::look(num::part(&*input, 0, run.filled), run.from);
-    match next {
-        Next::Line(_) => run.stopped(false),
-        Next::Rest => refilled(source, run, input),
-        Next::Bad(why) => bad(run, num::least(why as usize, 255) as u8),
-        Next::Refused(_) => run.stopped(false),
+    match log_sound::look(num::part(&*input, 0, run.filled), run.from) {
+        Ok(Some(_)) => run.stopped(),
+        Ok(None) => refilled(source, run, input),
+        Err(Stop::Bad(why)) => bad(run, why),
+        Err(Stop::Refused(_)) => run.stopped(),
     }
 }
 
@@ -98,7 +101,7 @@ impl Run {
 // A run that stood at `before`; where no line was taken it goes on with more input.
 pub(crate) fn settled<R: Read>(source: &mut R, before: usize, run: Run, input: &mut [u8]) -> Run {
     if run.from == before {
-        if run.going {
+        if run.state == State::Going {
             return unplayed(source, run, input);
         }
     }
@@ -145,9 +148,9 @@ fn heard(
 ) -> Run {
     let answer = lines.answer;
     let next = run.passed(lines.from, lines.count, lines.frames);
-    let Answer::Done = answer else {
+    let Ok(Returned::Done) = answer else {
         complain(b"the chip refuses the log\n");
-        return next.stopped(false);
+        return next.stopped();
     };
     told(run.frames, next.frames);
     framed(sound, next, lines.frames, stems, others, out)
@@ -183,33 +186,30 @@ fn play_on(
 ) -> Run {
     let mut chip = fresh;
     let mut run = begun;
-    let mut turns: u64 = 0xffff_ffff_ffff_ffff;
-    while 0 < turns {
-        if run.going {
-            let lines = lines_of(
-                chip,
-                run,
-                &*input,
-                &mut *ram,
-                &mut *queues,
-                &mut *stems,
-                &mut *others,
-            );
-            chip = lines.chip;
-            run = turn(
-                rt,
-                sound,
-                run,
-                lines,
-                &mut *input,
-                &*stems,
-                &*others,
-                &mut *out,
-            );
-            turns -= 1;
-        } else {
-            turns = 0;
+    for _ in 0..u64::MAX {
+        if run.state != State::Going {
+            break;
         }
+        let lines = lines_of(
+            chip,
+            run,
+            &*input,
+            &mut *ram,
+            &mut *queues,
+            &mut *stems,
+            &mut *others,
+        );
+        chip = lines.chip;
+        run = turn(
+            rt,
+            sound,
+            run,
+            lines,
+            &mut *input,
+            &*stems,
+            &*others,
+            &mut *out,
+        );
     }
     run
 }

@@ -53,13 +53,11 @@ fn all_stems(stems: &[i16], others: &[i16], out: &mut [u8]) -> bool {
 fn voices(first: usize, stems: &[i16], out: &mut [u8]) -> bool
     requires { first ≤ 8 }
 {
-    let mut channel: usize = 0;
-    while channel < NUM_CHANNELS {
+    for channel in 0..NUM_CHANNELS {
         let end = wav::put_channel(&mut *out, 0, stems, channel);
         if !written(of_voice(FIRST_VOICE, first + channel), &*out, end) {
             return false;
         }
-        channel += 1;
     }
     true
 }
@@ -76,7 +74,7 @@ fn going(run: Run, could: bool) -> Run {
     if could {
         return run;
     }
-    run.stopped(false)
+    run.stopped()
 }
 
 // A run after the frames of its last lines.

@@ -1,11 +1,12 @@
 -- What holds of every accepted file: its header's numbers fit its bytes. Assumes nothing.
-use mathlib.Core.Path.{◌≡◌, refl, sym, ap, ◌∙◌, subst}
+use Rattle.std.specs.Prelude.{Result, Ok, Err}
+use mathlib.Core.Path.{◌≡◌, refl, sym, subst}
 use mathlib.Core.Bool.{Bool, true, false, cond}
-use mathlib.Core.List.{List, [], ◌∷◌}
-use Prim.Native.Nat.{ℕ, zero, suc, ◌+◌, ◌-◌, ◌*◌, ◌/◌, ◌^◌, ◌≤◌, ◌<◌}
+use mathlib.Core.List.{List}
+use Prim.Native.Nat.{ℕ, zero, suc, ◌+◌, ◌-◌, ◌^◌, ◌≤◌, ◌<◌}
 use native.Mathlib.Omega.{arith}
 use native.Mathlib.Nat.{div-lt_iff_lt-mul}
-use lib.Dec.{ltb, leb, eqb}
+use lib.Dec.{ltb, eqb}
 use lib.ListN.{length, get_or}
 use borrow.Author.Tests.{eqb-true, ltb-true, ltb-false}
 use Rattle.num.specs.Lists.{part}
@@ -13,33 +14,21 @@ use Rattle.num.specs.Bytes.{le}
 use Rattle.num.proofs.Choice.{cond-by, never}
 use Rattle.num.proofs.Bytes.{le_four}
 use Rattle.adpcm.specs.declared.Variant.{Variant}
-use Rattle.adpcm.specs.declared.VariantByte.{VariantByte}
-use Rattle.adpcm.specs.declared.VariantByte.TheVariants.{Known, Unknown}
 use Rattle.adpcm.specs.Codes.{variant_of, fragment_size, legacy_fragment_size}
 use Rattle.sqv4.specs.declared.Header.{Header}
 use Rattle.sqv4.specs.declared.Fault.{Fault}
-use Rattle.sqv4.specs.declared.Fault.TheVariants.{Fine, Step, Padding}
-use Rattle.sqv4.specs.declared.Inspected.{Inspected}
-use Rattle.sqv4.specs.declared.Inspected.TheVariants.{Accepted, TruncatedHeader, InvalidMagic, UnsupportedVersion, InvalidVariant, InvalidChannels, InvalidReservedByte, ZeroSampleRate, InvalidFileLength, InvalidStepIndex, NonZeroPadding}
-use Rattle.sqv4.specs.Files.{frame_samples_of, frame_size_of, frame_count_of, header_of, length_of, fault_in, unless_fault, used_at, fragment_at, faults_from, measured, named, by_variant, magic, inspected, Fills}
+use Rattle.sqv4.specs.Files.{frame_samples_of, frame_size_of, frame_count_of, header_of, length_of, fault_in, unless_fault, used_at, fragment_at, faults_from, named, by_variant, magic, inspected, Fills}
+use Rattle.sqv4.specs.declared.InspectError.{InspectError}
+use Rattle.adpcm.specs.declared.UnknownVariant.{UnknownVariant}
 use Rattle.sqv4.proofs.Sizes.{payload-size, legacy-size}
 
 -- ---- P holds of the header where there is one
-abbrev pub Takes : (Header → Type 0) → Inspected → Type 0
-Takes P (Accepted h) = P h
-Takes P TruncatedHeader = Unit
-Takes P InvalidMagic = Unit
-Takes P (UnsupportedVersion x) = Unit
-Takes P (InvalidVariant x) = Unit
-Takes P (InvalidChannels x) = Unit
-Takes P (InvalidReservedByte x) = Unit
-Takes P ZeroSampleRate = Unit
-Takes P (InvalidFileLength e a) = Unit
-Takes P (InvalidStepIndex x) = Unit
-Takes P NonZeroPadding = Unit
+abbrev pub Takes : (Header → Type 0) → Result Header InspectError → Type 0
+Takes P (Ok h) = P h
+Takes P (Err e) = Unit
 
 -- a record of it, whose arguments antt finds
-pub record Took (P : Header → Type 0) (x : Inspected) : Type 0 where
+pub record Took (P : Header → Type 0) (x : Result Header InspectError) : Type 0 where
   pub it : Takes P x
 
 -- what a header says follows from a file's bytes; the number of samples is of 32 bits where they are bytes
@@ -57,10 +46,9 @@ unfolding faults_from
 faults-keep P d h g p zero = record { it = g }
 faults-keep P d h g p (suc n) = go (fault_in h.version (used_at h p) (fragment_at d h p)) (faults-keep P d h g (suc p) n)
   where
-    go : (x : Fault) {y : Inspected} → Took P y → Took P (unless_fault x y)
-    go Fine t = t
-    go (Step b) t = record { it = tt }
-    go Padding t = record { it = tt }
+    go : (x : Result (Unit {0}) Fault) {y : Result Header InspectError} → Took P y → Took P (unless_fault x y)
+    go (Ok u) t = t
+    go (Err e) t = record { it = tt }
 
 one-or-two : (n : ℕ) → cond (eqb n 1) true (eqb n 2) ≡ true → (1 ≤ n) × (n ≤ 2)
 one-or-two n e = go (eqb n 1) refl (eqb n 2) refl e
@@ -94,9 +82,9 @@ module _ (d : List ℕ) (long : 16 ≤ length d) where
       (λ b. record { it = tt }))
       (λ a. record { it = tt })
 
-  by-variant : (b : VariantByte) → (1 ≤ get_or d 4 0) × (get_or d 4 0 ≤ 3) → Took (Told d) (by_variant d (get_or d 5 0) b)
-  by-variant (Known k) v = named-told k v
-  by-variant Unknown v = record { it = tt }
+  by-variant : (b : Result Variant UnknownVariant) → (1 ≤ get_or d 4 0) × (get_or d 4 0 ≤ 3) → Took (Told d) (by_variant d b)
+  by-variant (Ok k) v = named-told k v
+  by-variant (Err u) v = record { it = tt }
 
 long-enough : (d : List ℕ) → ltb (length d) 16 ≡ false → 16 ≤ length d
 long-enough d e = ltb-false (length d) 16 e
@@ -111,8 +99,8 @@ inspected-told d =
     (λ b. record { it = tt }))
 
 -- of an accepted file
-pub accepted-told : (d : List ℕ) (h : Header) → inspected d ≡ Accepted h → Told d h
-accepted-told d h e = (subst (λ (x : Inspected). Took (Told d) x) e (inspected-told d)).it
+pub accepted-told : (d : List ℕ) (h : Header) → inspected d ≡ Ok h → Told d h
+accepted-told d h e = (subst (λ (x : Result Header InspectError). Took (Told d) x) e (inspected-told d)).it
 
 -- and of one that is bytes
 pub record Says (d : List ℕ) (h : Header) : Type 0 where
@@ -124,7 +112,7 @@ pub record Says (d : List ℕ) (h : Header) : Type 0 where
   pub known : (1 ≤ h.version) × (h.version ≤ 3)
   pub few : h.samples_per_channel < 2 ^ 32
 
-pub accepted-says : (d : List ℕ) (h : Header) → ((i : ℕ) → get_or d i 0 < 256) → inspected d ≡ Accepted h → Says d h
+pub accepted-says : (d : List ℕ) (h : Header) → ((i : ℕ) → get_or d i 0 < 256) → inspected d ≡ Ok h → Says d h
 accepted-says d h bytes e =
     let t = accepted-told d h e in
     record { samples = t.samples; count = t.count; size = t.size; long = t.long; one-or-two = t.one-or-two; known = t.known; few = t.few bytes }

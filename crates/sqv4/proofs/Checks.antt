@@ -1,39 +1,20 @@
 -- A turn of the check's loop over fragments, and answers by their numbers. Assumes nothing.
-use mathlib.Core.Path.{◌≡◌, refl, sym, ap, ◌∙◌}
+use Rattle.std.specs.Prelude.{Result, Ok}
+use mathlib.Core.Path.{◌≡◌, sym, ap, ◌∙◌}
 use mathlib.Core.List.{List}
-use mathlib.Core.Logic.{◌⊎◌, inl, inr}
-use Prim.Native.Nat.{ℕ, zero, suc, ◌+◌, ◌-◌, ◌*◌, ◌≤◌, ◌<◌}
+use Prim.Native.Nat.{ℕ, suc, ◌+◌, ◌-◌, ◌*◌, ◌≤◌, ◌<◌}
 use native.Mathlib.Omega.{arith}
 use native.Mathlib.Nat.{mul-le-mul_right, sub-zero}
 use native.Mathlib.Numerals.{add-one}
 use lib.ListN.{length, take, drop}
-use denote.Enum.Declared.{tag_of}
-use Rattle.sqv4.specs.contracts.Fault.{the_type}
 use Rattle.sqv4.specs.declared.Fault.{Fault}
-use Rattle.sqv4.specs.declared.Fault.TheVariants.{Fine, Step, Padding}
 use Rattle.sqv4.specs.declared.Header.{Header}
-use Rattle.sqv4.specs.declared.Inspected.{Inspected}
-use Rattle.sqv4.specs.declared.Inspected.TheVariants.{Accepted, NonZeroPadding}
-use Rattle.sqv4.specs.Files.{fault_in, fault_number, faults_from, unless_fault, used_at, fragment_at, number_of, Fills}
+use Rattle.sqv4.specs.declared.InspectError.{InspectError}
+use Rattle.sqv4.specs.Files.{fault_in, faults_from, unless_fault, used_at, fragment_at, number_of, Fills}
 
 -- equal answers have one number
-pub numbered : {r x : Inspected} → r ≡ x → (r ≡ x) × (number_of r ≡ number_of x)
+pub numbered : {r x : Result Header InspectError} → r ≡ x → (r ≡ x) × (number_of r ≡ number_of x)
 numbered e = (e, ap number_of e)
-
--- a fault that has a number is told by it
-fault-number : (f : Fault) (x : Inspected) → 0 < length (fault_number f) → number_of (unless_fault f x) ≡ fault_number f
-fault-number Fine x h = absurd (omega arith)
-fault-number (Step b) x h = refl
-fault-number Padding x h = refl
-
-pub fault-told : (f : Fault) {r : Inspected} → r ≡ unless_fault f NonZeroPadding → (r ≡ unless_fault f NonZeroPadding) × (0 < length (fault_number f) → number_of r ≡ fault_number f)
-fault-told f e = (e, λ h. ap number_of e ∙ fault-number f NonZeroPadding h)
-
--- a fault makes what follows it of no account
-pub not-fine : (f : Fault) → (f ≡ Fine → ⊥) → (x y : Inspected) → unless_fault f x ≡ unless_fault f y
-not-fine Fine n x y = absurd (n refl)
-not-fine (Step b) n x y = refl
-not-fine Padding n x y = refl
 
 module _ (d : List ℕ) (h : Header) where
   -- how many fragments a file has
@@ -41,7 +22,7 @@ module _ (d : List ℕ) (h : Header) where
   total = h.frame_count * h.channels
 
   -- what is to come from position p on
-  abbrev pub rest : ℕ → Inspected
+  abbrev pub rest : ℕ → Result Header InspectError
   rest p = faults_from d h p (total - p)
 
   pub rest_all : rest 0 ≡ faults_from d h 0 total
@@ -54,7 +35,7 @@ module _ (d : List ℕ) (h : Header) where
       one : (p total : ℕ) → p < total → total - p ≡ suc (total - (suc p))
       one p total l = omega arith
 
-  pub faults-none : (p : ℕ) → total ≤ p → rest p ≡ Accepted h
+  pub faults-none : (p : ℕ) → total ≤ p → rest p ≡ Ok h
   unfolding faults_from
   faults-none p l = ap (λ (n : ℕ). faults_from d h p n) (zero_left p total l)
     where
@@ -66,7 +47,7 @@ module _ (d : List ℕ) (h : Header) where
   room p f l = omega (arith, f.long, mul-le-mul_right h.frame_size l)
 
   -- a turn: fault x of the fragment at `at`
-  pub turn : (p at used : ℕ) (x : Fault) → p < total → at ≡ 16 + p * h.frame_size → used ≡ used_at h p → x ≡ fault_in h.version used (take (at + h.frame_size - at) (drop at d)) → rest p ≡ unless_fault x (rest (p + 1))
+  pub turn : (p at used : ℕ) (x : Result (Unit {0}) Fault) → p < total → at ≡ 16 + p * h.frame_size → used ≡ used_at h p → x ≡ fault_in h.version used (take (at + h.frame_size - at) (drop at d)) → rest p ≡ unless_fault x (rest (p + 1))
   turn p at used x l e u f =
       let m : at + h.frame_size - at ≡ h.frame_size = omega arith in
-      faults-step p l ∙ ap (λ (y : Fault). unless_fault y (rest (p + 1))) (sym (rw (m, e, u) at f))
+      faults-step p l ∙ ap (λ (y : Result (Unit {0}) Fault). unless_fault y (rest (p + 1))) (sym (rw (m, e, u) at f))

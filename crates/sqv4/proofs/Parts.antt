@@ -1,7 +1,6 @@
 -- Each fragment's samples are their part of the whole. Assumes nothing.
 use mathlib.Core.Path.{◌≡◌, refl, sym, ap, ◌∙◌, subst}
-use mathlib.Core.Bool.{Bool, true, false, cond}
-use mathlib.Core.List.{List, [], ◌∷◌, ◌++◌}
+use mathlib.Core.List.{List, ◌++◌}
 use Prim.Native.Nat.{ℕ, zero, suc, ◌+◌, ◌-◌, ◌*◌, ◌/◌, ◌%◌, ◌≤◌, ◌<◌, min}
 use native.Mathlib.Omega.{arith}
 use native.Mathlib.Decide.{dec_le}
@@ -9,19 +8,16 @@ use native.Mathlib.Nat as N
 use lib.Dec.{eqb}
 use lib.ListN.{length, get_or, take, drop, length-append, length-drop}
 use lib.Seq.{take_all, take-append-le, drop-append-le, drop_at, get_or-take, get_or-drop}
-use borrow.Author.Tests.{eq-eqb}
 use lib.IntN.{ℤ, pos}
 use Rattle.num.specs.Lists.{part}
 use Rattle.num.proofs.Choice.{cond-by}
 use Rattle.adpcm.specs.declared.Variant.{Variant}
 use Rattle.adpcm.specs.declared.State.{State}
 use Rattle.sqv4.specs.declared.Header.{Header}
-use Rattle.sqv4.specs.declared.Inspected.{Inspected}
-use Rattle.sqv4.specs.declared.Inspected.TheVariants.{Accepted}
-use Rattle.sqv4.specs.Files.{frame_samples_of, frame_count_of, frame_length, fragment_at, inspected}
+use Rattle.sqv4.specs.Files.{frame_samples_of, frame_count_of, frame_length, fragment_at}
 use Rattle.sqv4.specs.Decoding.{samples_of, state_of, zero_state}
 use Rattle.sqv4.specs.Whole.{samples_from, state_from, state_after, piece, pieces, channel_whole, channel_state}
-use Rattle.sqv4.proofs.Accepted.{Says, accepted-says}
+use Rattle.sqv4.proofs.Accepted.{Says}
 use Rattle.sqv4.proofs.Wholes.{length_from}
 
 -- ---- pieces of a decoder: n samples, `per` a piece

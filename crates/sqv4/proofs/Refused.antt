@@ -1,51 +1,18 @@
--- A refused file leaves the buffer; two channels have as many samples each. Assumes nothing.
+-- Two channels have as many samples each; a file of one, and of two. Assumes nothing.
 use mathlib.Core.Path.{◌≡◌, refl, sym, ap, ap₂, ◌∙◌}
-use mathlib.Core.Bool.{Bool, true, false, cond}
-use mathlib.Core.List.{List, [], ◌∷◌}
-use mathlib.Core.Logic.{◌⊎◌, inl, inr}
+use mathlib.Core.Bool.{Bool, cond}
+use mathlib.Core.List.{List}
 use Prim.Native.Nat.{ℕ, zero, suc, ◌+◌}
 use native.Mathlib.Omega.{arith}
-use lib.Dec.{eqb}
 use lib.ListN.{length, length-append}
 use lib.Seq.{sets}
 use lib.IntN.{ℤ}
-use types.Run.{OneOf}
-use denote.Enum.Declared.{tag_of}
 use borrow.Author.Tests.{eq-eqb, ne_eqb}
-use Rattle.sqv4.specs.contracts.Inspected.{the_type}
 use Rattle.sqv4.specs.declared.Header.{Header}
-use Rattle.sqv4.specs.declared.Inspected.{Inspected}
-use Rattle.sqv4.specs.declared.Inspected.TheVariants.{Accepted, TruncatedHeader, InvalidMagic, UnsupportedVersion, InvalidVariant, InvalidChannels, InvalidReservedByte, ZeroSampleRate, InvalidFileLength, InvalidStepIndex, NonZeroPadding}
 use Rattle.sqv4.specs.Decoding.{strided}
-use Rattle.sqv4.specs.Whole.{samples_from, state_from, state_after, piece, pieces, channel_whole, interleaved, whole_of, decoded_into}
+use Rattle.sqv4.specs.Whole.{samples_from, state_from, state_after, piece, pieces, channel_whole, interleaved, whole_of}
 use Rattle.sqv4.proofs.Strided.{strided-sets, strided-two}
 use Rattle.sqv4.proofs.Wholes.{length_from}
-
--- no refusal has the tag of an accepted file
-pub zero-not : OneOf (1 ∷ 2 ∷ 3 ∷ 4 ∷ 5 ∷ 6 ∷ 7 ∷ 8 ∷ 9 ∷ 10 ∷ []) 0 → ⊥
-zero-not (inl e) = omega arith
-zero-not (inr (inl e)) = omega arith
-zero-not (inr (inr (inl e))) = omega arith
-zero-not (inr (inr (inr (inl e)))) = omega arith
-zero-not (inr (inr (inr (inr (inl e))))) = omega arith
-zero-not (inr (inr (inr (inr (inr (inl e)))))) = omega arith
-zero-not (inr (inr (inr (inr (inr (inr (inl e))))))) = omega arith
-zero-not (inr (inr (inr (inr (inr (inr (inr (inl e)))))))) = omega arith
-zero-not (inr (inr (inr (inr (inr (inr (inr (inr (inl e))))))))) = omega arith
-zero-not (inr (inr (inr (inr (inr (inr (inr (inr (inr e))))))))) = omega arith
-
-pub refused : (out : List ℤ) (d : List ℕ) (x : Inspected) → OneOf (1 ∷ 2 ∷ 3 ∷ 4 ∷ 5 ∷ 6 ∷ 7 ∷ 8 ∷ 9 ∷ 10 ∷ []) (tag_of the_type x) → out ≡ decoded_into out d x
-refused out d (Accepted h) t = absurd (zero-not t)
-refused out d TruncatedHeader t = refl
-refused out d InvalidMagic t = refl
-refused out d (UnsupportedVersion x) t = refl
-refused out d (InvalidVariant x) t = refl
-refused out d (InvalidChannels x) t = refl
-refused out d (InvalidReservedByte x) t = refl
-refused out d ZeroSampleRate t = refl
-refused out d (InvalidFileLength e a) t = refl
-refused out d (InvalidStepIndex x) t = refl
-refused out d NonZeroPadding t = refl
 
 -- the number of a channel's samples does not depend on the channel
 module _ (d : List ℕ) (h : Header) (a b : ℕ) where

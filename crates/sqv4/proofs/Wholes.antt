@@ -1,13 +1,12 @@
 -- A channel decoded fragment after fragment: the loop's invariant, its start, a turn and its end. Assumes nothing.
 use mathlib.Core.Path.{◌≡◌, refl, sym, ap, ap₂, ◌∙◌}
-use mathlib.Core.List.{List, [], ◌∷◌, ◌++◌}
+use mathlib.Core.List.{List, [], ◌∷◌}
 use Prim.Native.Nat.{ℕ, zero, suc, ◌+◌, ◌-◌, ◌*◌, ◌^◌, ◌≤◌, ◌<◌}
 use native.Mathlib.Nat as N
 use native.Mathlib.Numerals.{add-one}
 use native.Mathlib.Omega.{arith}
 use lib.ListN.{length, take, drop, length-append}
 use lib.IntN.{ℤ}
-use Rattle.num.specs.Lists.{part}
 use Rattle.adpcm.specs.declared.Variant.{Variant}
 use Rattle.adpcm.specs.declared.State.{State}
 use Rattle.sqv4.specs.declared.Header.{Header}
@@ -15,7 +14,7 @@ use Rattle.sqv4.specs.Files.{Fills, fragment_at, frame_length}
 use Rattle.adpcm.specs.Codes.{decode_code}
 use Rattle.sqv4.specs.Decoding.{codes_from, sounds, samples_of, state_of, strided, zero_state}
 use Rattle.sqv4.specs.Whole.{samples_from, state_from, state_after, piece, pieces, channel_whole}
-use Rattle.sqv4.proofs.Checks.{total, room}
+use Rattle.sqv4.proofs.Checks.{room}
 use Rattle.sqv4.proofs.Strided.{strided-append, length-strided}
 
 -- ---- a fragment has as many samples as are asked for

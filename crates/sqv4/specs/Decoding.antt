@@ -1,5 +1,5 @@
 -- A run of codes and a fragment: the samples, and the decoder's state after them.
-use Rattle.std.specs.Prelude.{Bool, true, false, cond, List, [], ◌∷◌, ℕ, zero, suc, ◌+◌, ◌-◌, ◌*◌, ◌/◌, min, eqb, length, get_or, drop, set, ℤ, pos}
+use Rattle.std.specs.Prelude.{cond, List, [], ◌∷◌, ℕ, zero, suc, ◌+◌, ◌-◌, ◌*◌, ◌/◌, min, eqb, length, get_or, drop, set, ℤ, pos}
 use Rattle.std.proofs.lemmas.List.Edits.{sets}
 use Rattle.adpcm.specs.declared.Variant.{Variant}
 use Rattle.adpcm.specs.declared.State.{State}

@@ -1,16 +1,15 @@
 -- The check of an SQV4 file, and document 01's numbers for its refusals.
-use Rattle.std.specs.Prelude.{Bool, true, false, cond, List, [], ◌∷◌, ◌≡◌, ℕ, zero, suc, ◌+◌, ◌-◌, ◌*◌, ◌/◌, ◌^◌, ◌<◌, ◌≤◌, min, ltb, leb, eqb, length, get_or, drop}
+use Rattle.std.specs.Prelude.{Bool, true, false, cond, List, [], ◌∷◌, ◌≡◌, ℕ, zero, suc, ◌+◌, ◌-◌, ◌*◌, ◌/◌, ◌^◌, ◌<◌, ◌≤◌, min, ltb, eqb, length, get_or, drop, Result, Ok, Err}
 use Rattle.num.specs.Lists.{part}
 use Rattle.num.specs.Bytes.{le}
 use Rattle.adpcm.specs.declared.Variant.{Variant}
-use Rattle.adpcm.specs.declared.VariantByte.{VariantByte}
-use Rattle.adpcm.specs.declared.VariantByte.TheVariants.{Known, Unknown}
 use Rattle.adpcm.specs.Codes.{variant_of, bits_of, fragment_size, legacy_fragment_size}
+use Rattle.adpcm.specs.declared.UnknownVariant.{UnknownVariant}
 use Rattle.sqv4.specs.declared.Header.{Header}
 use Rattle.sqv4.specs.declared.Fault.{Fault}
-use Rattle.sqv4.specs.declared.Fault.TheVariants.{Fine, Step, Padding}
-use Rattle.sqv4.specs.declared.Inspected.{Inspected}
-use Rattle.sqv4.specs.declared.Inspected.TheVariants.{Accepted, TruncatedHeader, InvalidMagic, UnsupportedVersion, InvalidVariant, InvalidChannels, InvalidReservedByte, ZeroSampleRate, InvalidFileLength, InvalidStepIndex, NonZeroPadding}
+use Rattle.sqv4.specs.declared.Fault.TheVariants.{Step, Padding}
+use Rattle.sqv4.specs.declared.InspectError.{InspectError}
+use Rattle.sqv4.specs.declared.InspectError.TheVariants.{TruncatedHeader, InvalidMagic, UnsupportedVersion, InvalidVariant, InvalidChannels, InvalidReservedByte, ZeroSampleRate, InvalidFileLength, InvalidStepIndex, NonZeroPadding}
 
 -- ---- sizes
 -- the samples of a full fragment of one channel
@@ -74,63 +73,72 @@ abbrev pub clean_tail : ℕ → ℕ → List ℕ → Bool
 clean_tail version used b = ltb (le (drop (prefix_of version) b)) (2 ^ used)
 
 -- a fragment's fault: its step index first, then its padding
-unfoldable pub fault_in : ℕ → ℕ → List ℕ → Fault
-fault_in version used b = cond (bad_step version b) (Step (get_or b 1 0)) (cond (clean_tail version used b) Fine Padding)
+unfoldable pub fault_in : ℕ → ℕ → List ℕ → Result (Unit {0}) Fault
+fault_in version used b = cond (bad_step version b) (Err (Step (get_or b 1 0))) (cond (clean_tail version used b) (Ok tt) (Err Padding))
 
 -- document 01's number for a fragment's fault, and its value
 abbrev pub fault_number : Fault → List ℕ
-fault_number Fine = []
 fault_number (Step i) = 12 ∷ i ∷ []
 fault_number Padding = 13 ∷ []
 
-abbrev pub unless_fault : Fault → Inspected → Inspected
-unless_fault Fine x = x
-unless_fault (Step i) x = InvalidStepIndex i
-unless_fault Padding x = NonZeroPadding
+-- the fault as the check's answer
+abbrev pub told : Fault → InspectError
+told (Step i) = InvalidStepIndex i
+told Padding = NonZeroPadding
+
+abbrev pub unless_fault : Result (Unit {0}) Fault → Result Header InspectError → Result Header InspectError
+unless_fault (Ok u) x = x
+unless_fault (Err f) x = Err (told f)
 
 -- the first fault of `left` fragments from position p on
-unfoldable pub faults_from : List ℕ → Header → ℕ → ℕ → Inspected
-faults_from d h p zero = Accepted h
+unfoldable pub faults_from : List ℕ → Header → ℕ → ℕ → Result Header InspectError
+faults_from d h p zero = Ok h
 faults_from d h p (suc left) =
     let rest = faults_from d h (suc p) left in
     unless_fault (fault_in h.version (used_at h p) (fragment_at d h p)) rest
 
 -- ---- the check
-abbrev pub measured : List ℕ → Header → Inspected
-measured d h = cond (eqb (length d) (length_of h)) (faults_from d h 0 (h.frame_count * h.channels)) (InvalidFileLength (length_of h) (length d))
+abbrev pub measured : List ℕ → Header → Result Header InspectError
+measured d h = cond (eqb (length d) (length_of h)) (faults_from d h 0 (h.frame_count * h.channels)) (Err (InvalidFileLength (length_of h) (length d)))
 
-unfoldable pub named : List ℕ → Variant → Inspected
+unfoldable pub named : List ℕ → Variant → Result Header InspectError
 named d k =
     cond (cond (eqb (get_or d 6 0) 1) true (eqb (get_or d 6 0) 2))
     (cond (eqb (get_or d 7 0) 0)
-    (cond (eqb (le (part d 8 4)) 0) ZeroSampleRate (measured d (header_of d k)))
-    (InvalidReservedByte (get_or d 7 0)))
-    (InvalidChannels (get_or d 6 0))
+    (cond (eqb (le (part d 8 4)) 0) (Err ZeroSampleRate) (measured d (header_of d k)))
+    (Err (InvalidReservedByte (get_or d 7 0))))
+    (Err (InvalidChannels (get_or d 6 0)))
 
-abbrev pub by_variant : List ℕ → ℕ → VariantByte → Inspected
-by_variant d b (Known k) = named d k
-by_variant d b Unknown = InvalidVariant b
+abbrev pub unknown_variant : UnknownVariant → InspectError
+unknown_variant u = InvalidVariant u.byte
 
-unfoldable pub inspected : List ℕ → Inspected
+abbrev pub by_variant : List ℕ → Result Variant UnknownVariant → Result Header InspectError
+by_variant d (Ok k) = named d k
+by_variant d (Err u) = Err (unknown_variant u)
+
+unfoldable pub inspected : List ℕ → Result Header InspectError
 inspected d =
-    cond (ltb (length d) 16) TruncatedHeader
+    cond (ltb (length d) 16) (Err TruncatedHeader)
     (cond (magic d)
-    (cond (cond (ltb 0 (get_or d 4 0)) (ltb (get_or d 4 0) 4) false) (by_variant d (get_or d 5 0) (variant_of (get_or d 5 0))) (UnsupportedVersion (get_or d 4 0)))
-    InvalidMagic)
+    (cond (cond (ltb 0 (get_or d 4 0)) (ltb (get_or d 4 0) 4) false) (by_variant d (variant_of (get_or d 5 0))) (Err (UnsupportedVersion (get_or d 4 0))))
+    (Err InvalidMagic))
 
 -- document 01's number for a refusal, and its values
-abbrev pub number_of : Inspected → List ℕ
-number_of (Accepted h) = []
-number_of TruncatedHeader = 4 ∷ []
-number_of InvalidMagic = 5 ∷ []
-number_of (UnsupportedVersion x) = 6 ∷ x ∷ []
-number_of (InvalidVariant x) = 7 ∷ x ∷ []
-number_of (InvalidChannels x) = 8 ∷ x ∷ []
-number_of (InvalidReservedByte x) = 9 ∷ x ∷ []
-number_of ZeroSampleRate = 10 ∷ []
-number_of (InvalidFileLength expected actual) = 11 ∷ expected ∷ actual ∷ []
-number_of (InvalidStepIndex x) = 12 ∷ x ∷ []
-number_of NonZeroPadding = 13 ∷ []
+abbrev pub error_number : InspectError → List ℕ
+error_number TruncatedHeader = 4 ∷ []
+error_number InvalidMagic = 5 ∷ []
+error_number (UnsupportedVersion x) = 6 ∷ x ∷ []
+error_number (InvalidVariant x) = 7 ∷ x ∷ []
+error_number (InvalidChannels x) = 8 ∷ x ∷ []
+error_number (InvalidReservedByte x) = 9 ∷ x ∷ []
+error_number ZeroSampleRate = 10 ∷ []
+error_number (InvalidFileLength expected actual) = 11 ∷ expected ∷ actual ∷ []
+error_number (InvalidStepIndex x) = 12 ∷ x ∷ []
+error_number NonZeroPadding = 13 ∷ []
+
+abbrev pub number_of : Result Header InspectError → List ℕ
+number_of (Ok h) = []
+number_of (Err e) = error_number e
 
 -- what the table gives for a file: nothing where it is accepted
 abbrev pub refused_with : List ℕ → List ℕ

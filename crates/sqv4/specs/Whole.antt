@@ -1,11 +1,10 @@
 -- A whole file decoded from its first fragment.
-use Rattle.std.specs.Prelude.{Bool, true, false, cond, List, [], ◌∷◌, ◌++◌, ℕ, zero, suc, ◌+◌, ◌*◌, eqb, ℤ}
+use Rattle.std.specs.Prelude.{cond, List, [], ◌∷◌, ◌++◌, ℕ, zero, suc, ◌+◌, ◌*◌, eqb, ℤ, Result, Ok, Err}
 use Rattle.std.proofs.lemmas.List.Edits.{sets}
 use Rattle.adpcm.specs.declared.State.{State}
 use Rattle.sqv4.specs.declared.Header.{Header}
-use Rattle.sqv4.specs.declared.Inspected.{Inspected}
-use Rattle.sqv4.specs.declared.Inspected.TheVariants.{Accepted, TruncatedHeader, InvalidMagic, UnsupportedVersion, InvalidVariant, InvalidChannels, InvalidReservedByte, ZeroSampleRate, InvalidFileLength, InvalidStepIndex, NonZeroPadding}
 use Rattle.sqv4.specs.Files.{frame_length, fragment_at}
+use Rattle.sqv4.specs.declared.InspectError.{InspectError}
 use Rattle.sqv4.specs.Decoding.{samples_of, state_of, zero_state}
 
 -- ---- fragment f of channel c, where the one before it ended in state s
@@ -49,15 +48,6 @@ unfoldable pub whole_of : List ℕ → Header → List ℤ
 whole_of d h = cond (eqb h.channels 2) (interleaved (channel_whole d h 0) (channel_whole d h 1)) (channel_whole d h 0)
 
 -- a buffer after a file's decoding: the shorter of the two is served, and a refused file leaves it
-abbrev pub decoded_into : List ℤ → List ℕ → Inspected → List ℤ
-decoded_into out d (Accepted h) = sets out 0 (whole_of d h)
-decoded_into out d TruncatedHeader = out
-decoded_into out d InvalidMagic = out
-decoded_into out d (UnsupportedVersion x) = out
-decoded_into out d (InvalidVariant x) = out
-decoded_into out d (InvalidChannels x) = out
-decoded_into out d (InvalidReservedByte x) = out
-decoded_into out d ZeroSampleRate = out
-decoded_into out d (InvalidFileLength e a) = out
-decoded_into out d (InvalidStepIndex x) = out
-decoded_into out d NonZeroPadding = out
+abbrev pub decoded_into : List ℤ → List ℕ → Result Header InspectError → List ℤ
+decoded_into out d (Ok h) = sets out 0 (whole_of d h)
+decoded_into out d (Err e) = out

@@ -3,11 +3,11 @@ ghost use Rattle.std.specs.Prelude.{◌≡◌, cond, true, false, ℕ, ◌+◌, 
 ghost use Rattle.num.specs.Lists.{part};
 ghost use Rattle.num.specs.Bytes.{le};
 ghost use Rattle.adpcm.specs.Codes.{bits_of};
-ghost use Rattle.sqv4.specs.Files.{frame_samples_of, prefix_of, frame_size_of, frame_count_of, magic, frame_length, used_at, fault_in, fault_number};
-ghost use Rattle.sqv4.specs.Files.{unless_fault, faults_from, header_of, measured, named, inspected, number_of, refused_with, Fills};
+ghost use Rattle.sqv4.specs.Files.{frame_samples_of, prefix_of, frame_size_of, frame_count_of, magic, frame_length, used_at, fault_in};
+ghost use Rattle.sqv4.specs.Files.{faults_from, header_of, measured, named, inspected, number_of, refused_with, Fills};
 
-use crate::{Fault, Header, Inspected};
-use adpcm::{Variant, VariantByte};
+use crate::{Fault, Header, InspectError};
+use adpcm::Variant;
 
 // The four bytes that a file begins with.
 pub const MAGIC: [u8; 4] = *b"SQV4";
@@ -23,17 +23,7 @@ fn has_magic(file: &[u8]) -> bool
     requires { 4 ≤ length file.now }
     ensures { result ≡ magic file.now }
 {
-    let name = MAGIC;
-    if file[0] != name[0] {
-        return false;
-    }
-    if file[1] != name[1] {
-        return false;
-    }
-    if file[2] != name[2] {
-        return false;
-    }
-    file[3] == name[3]
+    file.starts_with(&MAGIC)
 }
 
 fn wide(x: u8) -> usize
@@ -62,14 +52,16 @@ pub(crate) fn prefix_of(version: u8) -> usize
     if version == 3 { 2 } else { 1 }
 }
 
-fn frame_samples(version: u8) -> usize
+// The samples of a full fragment of one channel.
+pub fn frame_samples(version: u8) -> usize
     ensures result { result ≡ frame_samples_of version }
     ensures lower_bound { (63 ≤ result) × (result ≤ 64) }
 {
     if version == 3 { 63 } else { 64 }
 }
 
-fn frame_size(version: u8, variant: Variant) -> usize
+// The bytes of a fragment.
+pub fn frame_size(version: u8, variant: Variant) -> usize
     ensures result { result ≡ frame_size_of version variant }
     ensures lower_bound { (2 ≤ result) × (result ≤ 34) }
 {
@@ -108,12 +100,11 @@ pub(crate) fn frame_length(header: Header, frame: usize) -> usize
 fn zeros(s: &[u8], from: usize) -> bool
     ensures { result ≡ eqb (le (drop from s.now)) 0 }
 {
-    let mut i = from;
-    while i < s.len() {
-        if s[i] != 0 {
+    let rest = num::tail(s, from);
+    for byte in rest {
+        if *byte != 0 {
             return false;
         }
-        i += 1;
     }
     true
 }
@@ -141,30 +132,18 @@ fn bad_step(version: u8, index: u8) -> bool
 }
 
 // A fragment's fault, if it has one.
-fn fault_in(version: u8, used: usize, fragment: &[u8]) -> Fault
+fn fault_in(version: u8, used: usize, fragment: &[u8]) -> Result<(), Fault>
     requires { used < 2 ^ 16 }
     ensures { result ≡ fault_in version used fragment.now }
 {
     let index = num::byte_at(fragment, 1);
     if bad_step(version, index) {
-        return Fault::Step(index);
+        return Err(Fault::Step(index));
     }
     if clean(num::tail(fragment, prefix_of(version)), used) {
-        Fault::Fine
+        Ok(())
     } else {
-        Fault::Padding
-    }
-}
-
-// A fault as the check's answer, by the same number.
-fn told(fault: Fault) -> Inspected
-    ensures result { result ≡ unless_fault fault Inspected.NonZeroPadding }
-    ensures result_value { 0 < length (fault_number fault) → number_of result ≡ fault_number fault }
-{
-    match fault {
-        Fault::Fine => Inspected::NonZeroPadding,
-        Fault::Step(index) => Inspected::InvalidStepIndex(index),
-        Fault::Padding => Inspected::NonZeroPadding,
+        Err(Fault::Padding)
     }
 }
 
@@ -180,24 +159,19 @@ fn used_at(header: Header, position: usize) -> usize
 }
 
 // The fragments, one after the other.
-fn faults(file: &[u8], header: Header) -> Inspected
+fn faults(file: &[u8], header: Header) -> Result<Header, InspectError>
     requires { Fills file.now header }
     ensures { result ≡ faults_from file.now header 0 (header.frame_count * header.channels) }
 {
     let size = header.frame_size;
     let total = header.frame_count * (header.channels as usize);
-    let mut position = 0;
     let mut at = 16;
-    while position < total {
+    for position in 0..total {
         let from = at;
         at += size;
-        let fault = fault_in(header.version, used_at(header, position), &file[from..at]);
-        let Fault::Fine = fault else {
-            return told(fault);
-        };
-        position += 1;
+        fault_in(header.version, used_at(header, position), &file[from..at])?;
     }
-    Inspected::Accepted(header)
+    Ok(header)
 }
 
 fn one_or_two(channels: u8) -> bool
@@ -220,7 +194,7 @@ fn known_version(version: u8) -> bool
 }
 
 // The check of the length and the fragments.
-fn measure(file: &[u8], variant: Variant, rate: usize) -> Inspected
+fn measure(file: &[u8], variant: Variant, rate: usize) -> Result<Header, InspectError>
     requires fact_1 { (16 ≤ length file.now) × (rate < 2 ^ 32) }
     requires fact_2 { (1 ≤ get_or file.now 6 0) × (get_or file.now 6 0 ≤ 2) }
     requires fact_3 { rate
@@ -235,10 +209,10 @@ fn measure(file: &[u8], variant: Variant, rate: usize) -> Inspected
     let size = frame_size(version, variant);
     let expected = count * (channels as usize) * size + 16;
     if file.len() != expected {
-        return Inspected::InvalidFileLength {
+        return Err(InspectError::InvalidFileLength {
             expected,
             actual: file.len(),
-        };
+        });
     }
     let header = Header {
         version,
@@ -254,7 +228,7 @@ fn measure(file: &[u8], variant: Variant, rate: usize) -> Inspected
 }
 
 // The check, once the variant is known.
-fn check_named(file: &[u8], variant: Variant) -> Inspected
+fn check_named(file: &[u8], variant: Variant) -> Result<Header, InspectError>
     requires { 16 ≤ length file.now }
     ensures { result ≡ named file.now variant }
 {
@@ -262,36 +236,32 @@ fn check_named(file: &[u8], variant: Variant) -> Inspected
     if one_or_two(channels) {
         let zero = file[7];
         if zero != 0 {
-            return Inspected::InvalidReservedByte(zero);
+            return Err(InspectError::InvalidReservedByte(zero));
         }
         let rate = number(file, 8);
         if rate == 0 {
-            return Inspected::ZeroSampleRate;
+            return Err(InspectError::ZeroSampleRate);
         }
         return measure(file, variant, rate);
     }
-    Inspected::InvalidChannels(channels)
+    Err(InspectError::InvalidChannels(channels))
 }
 
 // The check of a file.
-pub fn inspect(file: &[u8]) -> Inspected
+pub fn inspect(file: &[u8]) -> Result<Header, InspectError>
     ensures result { result ≡ inspected file.now }
     ensures result_value { number_of result ≡ refused_with file.now }
 {
     if file.len() < 16 {
-        return Inspected::TruncatedHeader;
+        return Err(InspectError::TruncatedHeader);
     }
     if has_magic(file) {
         let version = file[4];
         if known_version(version) {
-            let byte = file[5];
-            let named = Variant::try_from(byte);
-            let VariantByte::Known(variant) = named else {
-                return Inspected::InvalidVariant(byte);
-            };
+            let variant = Variant::try_from(file[5])?;
             return check_named(file, variant);
         }
-        return Inspected::UnsupportedVersion(version);
+        return Err(InspectError::UnsupportedVersion(version));
     }
-    Inspected::InvalidMagic
+    Err(InspectError::InvalidMagic)
 }

@@ -54,21 +54,17 @@ fn decode_codes(
     let count = places.count;
     let mut state = start;
     let mut at = places.at;
-    let mut bit = 0;
-    let mut i = 0;
-    while i < count {
+    for i in 0..count {
         let index = num::least(state.index, 88);
         state = adpcm::decode_at(
             version,
             variant,
             state,
             steps[index],
-            adpcm::unpack_bits(payload, bit, bits),
+            adpcm::unpack_bits(payload, i * bits, bits),
         );
         put(out, at, sound(version, state.predictor, volume));
         at += step;
-        bit += bits;
-        i += 1;
     }
     state
 }
@@ -132,16 +128,12 @@ fn reach(version: u8, variant: Variant, fragment: &[u8], wanted: usize) -> usize
 pub fn decode_fragment(variant: Variant, fragment: &[u8], out: &mut [i16])
     ensures { out.new ≡ fragment_into out.old 3 variant zero_state fragment.now }
 {
-    let zero = State {
-        predictor: 0,
-        index: 0,
-    };
     let places = Places {
         at: 0,
         step: 1,
         count: reach(3, variant, fragment, out.len()),
     };
-    decode_part(3, variant, zero, fragment, out, places);
+    decode_part(3, variant, State::default(), fragment, out, places);
 }
 
 fn legacy_version(version: u8) -> u8

@@ -1,12 +1,15 @@
 // SQV4 streams: the check of a file, a fragment's samples, and the whole of a file.
 #![tactic(auto)]
 
+ghost use Rattle.std.specs.Prelude.{◌≡◌};
+ghost use Rattle.sqv4.specs.Files.{told, error_number, fault_number, unknown_variant};
+
 mod check;
 mod fragment;
 mod whole;
 
-use adpcm::Variant;
-pub use check::{MAGIC, inspect, stream_bytes};
+use adpcm::{UnknownVariant, Variant};
+pub use check::{MAGIC, frame_samples, frame_size, inspect, stream_bytes};
 pub use fragment::{decode_fragment, decode_legacy_fragment};
 pub use whole::decode;
 
@@ -25,10 +28,9 @@ pub struct Header {
     pub frame_size: usize,
 }
 
-// The check's answer: the header, or the first thing that is wrong.
-#[derive(Clone, Copy)]
-pub enum Inspected {
-    Accepted(Header),
+// The first thing that is wrong with a file.
+#[derive(Clone, Copy, Debug, PartialEq, Eq)]
+pub enum InspectError {
     TruncatedHeader,
     InvalidMagic,
     UnsupportedVersion(u8),
@@ -42,9 +44,28 @@ pub enum Inspected {
 }
 
 // What is wrong with a fragment.
-#[derive(Clone, Copy)]
+#[derive(Clone, Copy, Debug, PartialEq, Eq)]
 pub enum Fault {
-    Fine,
     Step(u8),
     Padding,
+}
+
+// A fault as the check's answer, by the same number.
+impl From<Fault> for InspectError {
+    ghost from_gives = { λ fault e. (e ≡ told fault) × (error_number e ≡ fault_number fault) };
+
+    fn from(fault: Fault) -> InspectError {
+        match fault {
+            Fault::Step(index) => InspectError::InvalidStepIndex(index),
+            Fault::Padding => InspectError::NonZeroPadding,
+        }
+    }
+}
+
+impl From<UnknownVariant> for InspectError {
+    ghost from_gives = { λ unknown e. e ≡ unknown_variant unknown };
+
+    fn from(unknown: UnknownVariant) -> InspectError {
+        InspectError::InvalidVariant(unknown.byte)
+    }
 }

@@ -5,7 +5,7 @@ ghost use Rattle.sqv4.specs.Decoding.{strided};
 ghost use Rattle.sqv4.specs.Whole.{channel_whole, decoded_into};
 
 use crate::fragment::Places;
-use crate::{Header, Inspected};
+use crate::{Header, InspectError};
 use adpcm::State;
 
 // The samples of one channel, to its places among the interleaved ones.
@@ -18,14 +18,10 @@ fn decode_channel(file: &[u8], header: Header, channel: usize, samples: &mut [i1
     let variant = header.variant;
     let channels = header.channels as usize;
     let size = header.frame_size;
-    let mut state = State {
-        predictor: 0,
-        index: 0,
-    };
-    let mut frame = 0;
+    let mut state = State::default();
     let mut from = 16 + channel * size;
     let mut at = channel;
-    while frame < header.frame_count {
+    for frame in 0..header.frame_count {
         let count = crate::check::frame_length(header, frame);
         let to = from + size;
         let places = Places {
@@ -43,23 +39,19 @@ fn decode_channel(file: &[u8], header: Header, channel: usize, samples: &mut [i1
         );
         at += count * channels;
         from += size * channels;
-        frame += 1;
     }
 }
 
 // A whole file into `samples`, its channels interleaved: the shorter of the two is served.
-pub fn decode(file: &[u8], samples: &mut [i16]) -> Inspected
+pub fn decode(file: &[u8], samples: &mut [i16]) -> Result<Header, InspectError>
     ensures result { result ≡ inspected file.now }
     ensures result_value { number_of result ≡ refused_with file.now }
     ensures samples { samples.new ≡ decoded_into samples.old file.now (inspected file.now) }
 {
-    let found = crate::check::inspect(file);
-    let Inspected::Accepted(header) = found else {
-        return found;
-    };
+    let header = crate::check::inspect(file)?;
     decode_channel(file, header, 0, samples);
     if header.channels == 2 {
         decode_channel(file, header, 1, samples);
     }
-    found
+    Ok(header)
 }

@@ -7,7 +7,7 @@
 
 ghost use Rattle.std.specs.Prelude.{◌≤◌};
 
-use adpcm::{State, Variant, VariantByte};
+use adpcm::{State, Variant};
 
 // The descriptors of standard input and standard output.
 const STDIN: i32 = 0;
@@ -26,20 +26,14 @@ fn number(call: &[u8], k: usize) -> usize
     requires { k ≤ 7 }
 {
     let mut n: usize = 0;
-    let mut i: usize = 8;
-    while 0 < i {
-        i -= 1;
+    for i in (0..8).rev() {
         n = (n << 8) | (num::byte_at(call, 8 * k + i) as usize);
     }
     n
 }
 
 fn variant_of(call: &[u8]) -> Variant {
-    let named = Variant::try_from(num::byte_at(call, 16));
-    let VariantByte::Known(variant) = named else {
-        return Variant::H;
-    };
-    variant
+    Variant::try_from(num::byte_at(call, 16)).unwrap_or(Variant::H)
 }
 
 fn state_of(call: &[u8]) -> State {
@@ -96,14 +90,11 @@ fn print(call: &[u8]) {
 }
 
 fn print_all(call: &mut [u8]) {
-    let mut calls: u64 = 0xffff_ffff_ffff_ffff;
-    while 0 < calls {
-        let got = io::read_full(STDIN, call);
-        if got < 256 {
+    for _ in 0..u64::MAX {
+        if io::read_full(STDIN, &mut *call) < 256 {
             return;
         }
         print(call);
-        calls -= 1;
     }
 }
 

@@ -1,11 +1,10 @@
 -- The buffers: a file that has room leaves room for its samples; a whole input has a line. Assumes nothing.
-use Rattle.std.proofs.Common.{◌≡◌, ℕ, ◌≤◌, Bool, true, false, cond, eqb, ltb, List, length, take, ℤ, sym, ap, ap₂, arith, length-take-le, ltb-true, eq-eqb, ne_eqb}
+use Rattle.std.proofs.Common.{◌≡◌, ℕ, ◌≤◌, Bool, true, false, cond, eqb, ltb, List, length, take, ℤ, sym, ap, ap₂, arith, length-take-le, ltb-true, eq-eqb, ne_eqb, Ok}
 use Rattle.num.proofs.Choice.{never}
 use Rattle.adpcm.specs.declared.Variant.{Variant}
 use Rattle.adpcm.specs.declared.Variant.TheVariants.{H, L, LPlus}
-use Rattle.sqv4_writer.specs.declared.StreamAnswer.TheVariants.{Written}
 use Rattle.sqv4_writer.specs.Streams.{length_for, answer_for}
-use Rattle.sqv4_writer.proofs.Terms.{wrote}
+use Rattle.sqv4_writer.proofs.Limits.{wrote}
 use Rattle.sqv4_make.specs.declared.Progress.{Progress}
 use Rattle.sqv4_make.specs.Making.{most_bytes, most_samples, is_whole}
 
@@ -15,7 +14,7 @@ fit H n h = omega arith
 fit L n h = omega arith
 fit LPlus n h = omega arith
 
-pub samples-fit : (n : ℕ) (k : Variant) (rate volume index m : ℕ) → answer_for n k rate volume index most_bytes ≡ Written m → n ≤ most_samples
+pub samples-fit : (n : ℕ) (k : Variant) (rate volume index m : ℕ) → answer_for n k rate volume index most_bytes ≡ Ok m → n ≤ most_samples
 samples-fit n k rate volume index m e = fit k n (wrote n k rate volume index most_bytes m e).room_for
 
 -- what the writer answers to the first n of some samples

@@ -1,17 +1,15 @@
 -- A byte more, and bytes one after the other. Assumes nothing.
-use Rattle.std.proofs.Common.{◌≡◌, ℕ, ◌+◌, ◌-◌, ◌<◌, ◌≤◌, min, Bool, true, false, cond, eqb, List, length, get_or, take, drop, ℤ, sym, refl, ap, ◌∙◌, ap₂, add-one, length-set, drop_of_length-le, drop-cons, eq-eqb, ne_eqb}
+use Rattle.std.proofs.Common.{◌≡◌, ℕ, ◌+◌, ◌-◌, ◌<◌, ◌≤◌, min, Bool, true, false, cond, eqb, List, length, get_or, take, drop, ℤ, sym, refl, ap, ◌∙◌, ap₂, add-one, length-set, drop_of_length-le, drop-cons, eq-eqb, ne_eqb, Option, Some, None}
 use Rattle.num.proofs.Choice.{cond-by}
 use Rattle.sqv4_make.specs.declared.Progress.{Progress}
-use Rattle.sqv4_make.specs.declared.FirstLine.{FirstLine}
-use Rattle.sqv4_make.specs.declared.SampleLine.{SampleLine}
-use Rattle.sqv4_make.specs.declared.SampleLine.TheVariants.{Value, NoSample}
+use Rattle.sqv4_writer.specs.declared.Terms.{Terms}
 use Rattle.sqv4_make.specs.Lines.{first_line, sample_line}
 use Rattle.sqv4_make.specs.Making.{line_size, line_read, headed_by, sampled_by, stored_by, kept_of, ended_of, samples_ended, step_of, samples_step, fed, samples_fed}
 
 -- ---- the samples are as many as before
-length-stored : (xs : List ℤ) (at : ℕ) (x : SampleLine) → length (stored_by xs at x) ≡ length xs
-length-stored xs at (Value x) = length-set xs at x
-length-stored xs at NoSample = refl
+length-stored : (xs : List ℤ) (at : ℕ) (x : Option ℤ) → length (stored_by xs at x) ≡ length xs
+length-stored xs at (Some x) = length-set xs at x
+length-stored xs at None = refl
 
 pub length-step : (m : Progress) (b : ℕ) (xs : List ℤ) → length (samples_step m b xs) ≡ length xs
 unfolding samples_step samples_ended
@@ -24,13 +22,13 @@ length-step m b xs =
 
 module _ (m : Progress) (xs : List ℤ) where
   -- ---- a line that is whole: the first, and any other
-  pub first_ended : (n : ℕ) (found : FirstLine) (next : Progress) → m.lines ≡ 0 → n ≡ min m.filled line_size → found ≡ first_line (take n m.line) → next ≡ headed_by m found → (next ≡ ended_of m) × (xs ≡ samples_ended m xs)
+  pub first_ended : (n : ℕ) (found : Option Terms) (next : Progress) → m.lines ≡ 0 → n ≡ min m.filled line_size → found ≡ first_line (take n m.line) → next ≡ headed_by m found → (next ≡ ended_of m) × (xs ≡ samples_ended m xs)
   unfolding ended_of samples_ended
   first_ended n found next z e f g =
       let t = eq-eqb m.lines 0 z in
       (g ∙ ap (headed_by m) (f ∙ ap (λ (k : ℕ). first_line (take k m.line)) e) ∙ sym (ap (λ (b : Bool). cond b (headed_by m (first_line (line_read m))) (sampled_by m (sample_line (line_read m)))) t), sym (ap (λ (b : Bool). cond b xs (stored_by xs (m.lines - 1) (sample_line (line_read m)))) t))
 
-  pub later-ended : (n : ℕ) (found : SampleLine) (next : Progress) (ys : List ℤ) → (m.lines ≡ 0 → ⊥) → n ≡ min m.filled line_size → found ≡ sample_line (take n m.line) → next ≡ sampled_by m found → ys ≡ stored_by xs (m.lines - 1) found → (next ≡ ended_of m) × (ys ≡ samples_ended m xs)
+  pub later-ended : (n : ℕ) (found : Option ℤ) (next : Progress) (ys : List ℤ) → (m.lines ≡ 0 → ⊥) → n ≡ min m.filled line_size → found ≡ sample_line (take n m.line) → next ≡ sampled_by m found → ys ≡ stored_by xs (m.lines - 1) found → (next ≡ ended_of m) × (ys ≡ samples_ended m xs)
   unfolding ended_of samples_ended
   later-ended n found next ys z e f g h =
       let t = ne_eqb m.lines 0 z in

@@ -1,11 +1,8 @@
 -- An input that is read byte after byte, and what was read of it.
-use Rattle.std.specs.Prelude.{ℕ, ◌+◌, ◌-◌, ◌%◌, ◌^◌, min, Bool, true, false, cond, List, [], ◌∷◌, take, replicate, ℤ, ◌==◌, nat_lt, slice_set}
+use Rattle.std.specs.Prelude.{ℕ, ◌+◌, ◌-◌, ◌%◌, ◌^◌, min, Bool, true, false, cond, List, [], ◌∷◌, take, replicate, ℤ, ◌==◌, nat_lt, slice_set, Option, Some, None}
 use Rattle.adpcm.specs.declared.Variant.TheVariants.{H}
 use Rattle.sqv4_make.specs.declared.Progress.{Progress}
-use Rattle.sqv4_make.specs.declared.FirstLine.{FirstLine}
-use Rattle.sqv4_make.specs.declared.FirstLine.TheVariants.{Says, NoTerms}
-use Rattle.sqv4_make.specs.declared.SampleLine.{SampleLine}
-use Rattle.sqv4_make.specs.declared.SampleLine.TheVariants.{Value, NoSample}
+use Rattle.sqv4_writer.specs.declared.Terms.{Terms}
 use Rattle.sqv4_make.specs.Lines.{first_line, sample_line}
 
 -- ---- the program's buffers: the longest file, and the samples of the longest
@@ -34,17 +31,17 @@ counted_of m = record { line = m.line; filled = 0; lines = (m.lines + 1) % 2 ^ 6
 abbrev pub line_read : Progress → List ℕ
 line_read m = take (min m.filled line_size) m.line
 
-abbrev pub headed_by : Progress → FirstLine → Progress
-headed_by m (Says terms) = record { line = m.line; filled = 0; lines = 1; terms = terms; good = true }
-headed_by m NoTerms = spoiled_of m
+abbrev pub headed_by : Progress → Option Terms → Progress
+headed_by m (Some terms) = record { line = m.line; filled = 0; lines = 1; terms = terms; good = true }
+headed_by m None = spoiled_of m
 
-abbrev pub sampled_by : Progress → SampleLine → Progress
-sampled_by m (Value x) = counted_of m
-sampled_by m NoSample = spoiled_of m
+abbrev pub sampled_by : Progress → Option ℤ → Progress
+sampled_by m (Some x) = counted_of m
+sampled_by m None = spoiled_of m
 
-abbrev pub stored_by : List ℤ → ℕ → SampleLine → List ℤ
-stored_by xs at (Value x) = slice_set xs at x
-stored_by xs at NoSample = xs
+abbrev pub stored_by : List ℤ → ℕ → Option ℤ → List ℤ
+stored_by xs at (Some x) = slice_set xs at x
+stored_by xs at None = xs
 
 -- the first says the terms, each other is a sample
 unfoldable pub ended_of : Progress → Progress

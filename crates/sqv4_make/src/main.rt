@@ -10,40 +10,11 @@ mod lines;
 mod making;
 mod moving;
 
-use adpcm::Variant;
-
-// What the first line says.
-#[derive(Clone, Copy)]
-pub(crate) struct Terms {
-    pub variant: Variant,
-    pub rate: u32,
-    pub volume: u8,
-    pub index: u8,
-}
-
-// A numeral within a line: its value and the place behind it.
-#[derive(Clone, Copy)]
-pub(crate) enum Field {
-    Number { value: u32, next: usize },
-    NoNumber,
-}
-
-// The first line, taken apart.
-#[derive(Clone, Copy)]
-pub(crate) enum FirstLine {
-    Says(Terms),
-    NoTerms,
-}
-
-// The line of a sample, taken apart.
-#[derive(Clone, Copy)]
-pub(crate) enum SampleLine {
-    Value(i16),
-    NoSample,
-}
+use sqv4_writer::Terms;
 
 // The input as far as it was read: the bytes of the line that is not ended yet, the whole lines before it, what the first of them
 // says, and whether all were such lines.
+// Kept as it is: there is no heap, so the line is a buffer of the longest one with its length beside it.
 #[derive(Clone, Copy)]
 pub(crate) struct Progress {
     pub line: [u8; 20],

@@ -4,10 +4,10 @@ ghost use Rattle.sqv4_writer.specs.Streams.{answer_for, written_into, file_of};
 ghost use Rattle.sqv4_make.specs.Making.{begun_of, spoiled_of, counted_of, headed_by, sampled_by, stored_by, kept_of, ended_of};
 ghost use Rattle.sqv4_make.specs.Making.{samples_ended, step_of, samples_step, fed, samples_fed, is_whole, most_samples, most_bytes};
 
+use crate::Progress;
 use crate::lines::{first_line, sample_line};
-use crate::{FirstLine, Progress, SampleLine, Terms};
 use adpcm::Variant;
-use sqv4_writer::StreamAnswer;
+use sqv4_writer::{StreamError, Terms};
 
 // The longest line: `2,4294967295,255,255`.
 const LINE_SIZE: usize = 20;
@@ -43,48 +43,45 @@ fn counted(mut making: Progress) -> Progress
     ensures { result ≡ counted_of making }
 {
     making.filled = 0;
-    making.lines = std::num::wrapping_add_u64(making.lines, 1);
+    making.lines = making.lines.wrapping_add(1);
     making
 }
 
 // The first line is whole.
-fn headed(making: Progress, first: FirstLine) -> Progress
+fn headed(making: Progress, first: Option<Terms>) -> Progress
     ensures { result ≡ headed_by making first }
 {
     let line = making.line;
     match first {
-        FirstLine::Says(terms) => Progress {
+        Some(terms) => Progress {
             line,
             filled: 0,
             lines: 1,
             terms,
             good: true,
         },
-        FirstLine::NoTerms => spoiled(making),
+        None => spoiled(making),
     }
 }
 
 // A further line is whole.
-fn sampled(making: Progress, found: SampleLine) -> Progress
+fn sampled(making: Progress, found: Option<i16>) -> Progress
     ensures { result ≡ sampled_by making found }
 {
     match found {
-        SampleLine::Value(_) => counted(making),
-        SampleLine::NoSample => spoiled(making),
+        Some(_) => counted(making),
+        None => spoiled(making),
     }
 }
 
 // Stores a sample, if there is room for it.
-fn store_sample(samples: &mut [i16], at: usize, found: SampleLine)
+fn store_sample(samples: &mut [i16], at: usize, found: Option<i16>)
     ensures { samples.new ≡ stored_by samples.old at found }
 {
-    match found {
-        SampleLine::Value(sample) => {
-            if at < samples.len() {
-                samples[at] = sample;
-            }
+    if let Some(sample) = found {
+        if at < samples.len() {
+            samples[at] = sample;
         }
-        SampleLine::NoSample => {}
     }
 }
 
@@ -139,10 +136,8 @@ pub(crate) fn feed(first: Progress, bytes: &[u8], samples: &mut [i16]) -> Progre
     ensures samples { samples.new ≡ samples_fed first bytes.now samples.old }
 {
     let mut making = first;
-    let mut i = 0;
-    while i < bytes.len() {
-        making = step(making, bytes[i], samples);
-        i += 1;
+    for byte in bytes {
+        making = step(making, *byte, samples);
     }
     making
 }
@@ -160,7 +155,7 @@ pub(crate) fn is_whole(making: Progress) -> bool
 }
 
 // Makes the file of all samples.
-pub(crate) fn make(making: Progress, samples: &[i16], file: &mut [u8]) -> StreamAnswer
+pub(crate) fn make(making: Progress, samples: &[i16], file: &mut [u8]) -> Result<usize, StreamError>
     requires { (1 ≤ making.lines) × (length samples.now ≡ most_samples) × (length file.old ≡ most_bytes) }
     ensures result { result ≡ answer_for (making.lines - 1) making.terms.variant making.terms.rate making.terms.volume
         making.terms.index most_bytes }
@@ -170,17 +165,7 @@ pub(crate) fn make(making: Progress, samples: &[i16], file: &mut [u8]) -> Stream
         making.terms.index) result }
 {
     let terms = making.terms;
-    let variant = terms.variant;
-    let rate = terms.rate;
-    let volume = terms.volume;
-    let index = terms.index;
     let count = (making.lines - 1) as usize;
-    let answer = sqv4_writer::answer_for(count, variant, rate, volume, index, file.len());
-    match answer {
-        StreamAnswer::Written(_) => {
-            sqv4_writer::write_stream(&samples[..count], variant, rate, volume, index, file)
-        }
-        StreamAnswer::OutOfTerms => answer,
-        StreamAnswer::OutputBuffer => answer,
-    }
+    sqv4_writer::answer_for(count, terms, file.len())?;
+    sqv4_writer::write_stream(&samples[..count], terms, file)
 }

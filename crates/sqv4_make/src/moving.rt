@@ -4,19 +4,14 @@ ghost use Rattle.sqv4_make.specs.Making.{most_samples, most_bytes};
 
 use crate::Progress;
 use crate::making::{begun, feed, is_whole, make};
-use sqv4_writer::StreamAnswer;
+use log_lines::LineFault;
+use sqv4_writer::StreamError;
 use std::io::Read;
 
 // The descriptors of standard output and standard error.
 const STDOUT: i32 = 1;
 
 const STDERR: i32 = 2;
-
-#[derive(Clone, Copy)]
-enum Got {
-    Bytes(usize),
-    Failed,
-}
 
 fn complain(reason: &[u8]) {
     io::write_all(STDERR, b"sqv4-make: ");
@@ -35,17 +30,17 @@ fn write_bad(making: Progress) {
     let end = log_lines::put_bad(
         &mut text,
         0,
-        std::num::wrapping_add_u64(making.lines, 1),
-        log_lines::MALFORMED,
+        making.lines.wrapping_add(1),
+        LineFault::Malformed.number(),
     );
     write(num::part(&text, 0, end));
 }
 
 // `refused` and the number.
-fn write_refused(answer: StreamAnswer) {
+fn write_refused(error: StreamError) {
     let mut text = [0u8; 32];
     let word = decimal::put_text(&mut text, 0, b"refused,");
-    let number = decimal::put_natural(&mut text, word, answer.number() as u64);
+    let number = decimal::put_natural(&mut text, word, error.number() as u64);
     let end = decimal::put_byte(&mut text, number, 10);
     write(num::part(&text, 0, end));
 }
@@ -58,21 +53,10 @@ fn finish(making: Progress, samples: &[i16], file: &mut [u8])
         write_bad(making);
         return;
     }
-    let answer = make(making, samples, &mut *file);
-    match answer {
-        StreamAnswer::Written(length) => write(num::part(file, 0, length)),
-        StreamAnswer::OutOfTerms => write_refused(answer),
-        StreamAnswer::OutputBuffer => write_refused(answer),
+    match make(making, samples, &mut *file) {
+        Ok(length) => write(num::part(file, 0, length)),
+        Err(error) => write_refused(error),
     }
-}
-
-// Reads once. A read that a signal interrupts has failed.
-fn read(rt: &HostRuntime, input: &mut [u8]) -> Got {
-    let Ok(got) = rt.stdin().read(input) else {
-        complain(b"the input cannot be read\n");
-        return Got::Failed;
-    };
-    Got::Bytes(got)
 }
 
 // Whether more is to be read, after n bytes.
@@ -83,22 +67,19 @@ fn goes_on(n: usize, good: bool) -> bool {
     good
 }
 
-// Reads and feeds until the input ends or a line is none, and writes what is made of it.
+// Reads and feeds until the input ends or a line is none, and writes what is made of it. A read that a signal interrupts has failed.
 pub(crate) fn run(rt: &HostRuntime, input: &mut [u8], samples: &mut [i16], file: &mut [u8])
     requires { (length samples.old ≡ most_samples) × (length file.old ≡ most_bytes) }
 {
     let mut making = begun();
-    let mut turns: u64 = 0xffff_ffff_ffff_ffff;
-    while 0 < turns {
-        let got = read(rt, &mut *input);
-        let Got::Bytes(n) = got else {
+    for _ in 0..u64::MAX {
+        let Ok(n) = rt.stdin().read(&mut *input) else {
+            complain(b"the input cannot be read\n");
             return;
         };
         making = feed(making, num::part(&*input, 0, n), &mut *samples);
-        if goes_on(n, making.good) {
-            turns -= 1;
-        } else {
-            turns = 0;
+        if !goes_on(n, making.good) {
+            break;
         }
     }
     finish(making, samples, file);

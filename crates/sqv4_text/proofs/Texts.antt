@@ -1,8 +1,9 @@
 -- The texts of numbers and samples, one more at a time. Assumes nothing.
-use Rattle.std.proofs.Common.{◌≡◌, ℕ, ◌+◌, ◌<◌, ◌≤◌, min, List, [], ◌∷◌, ◌++◌, length, get_or, take, ℤ, pos, take_all}
-use Rattle.sqv4.specs.declared.Inspected.{Inspected}
+use Rattle.std.proofs.Common.{◌≡◌, ℕ, ◌+◌, ◌<◌, ◌≤◌, min, List, [], ◌∷◌, ◌++◌, length, get_or, take, ℤ, pos, take_all, Result}
 use Rattle.decimal.specs.Written.{Put, decimal, render}
 use Rattle.decimal.proofs.Writing.{put-append, put-none, put-each}
+use Rattle.sqv4.specs.declared.InspectError.{InspectError}
+use Rattle.sqv4.specs.declared.Header.{Header}
 use Rattle.sqv4_text.specs.Lines.{fields, lines, word_of, values_of, answer_line}
 
 pub fields-none : (l vs : List ℕ) (at e : ℕ) → e ≡ min at (length l) → Put l l at (fields (take 0 vs)) e
@@ -29,7 +30,7 @@ lines_next l m n k zs at e c r i h p q s =
 pub lines-all : (l m : List ℕ) (zs : List ℤ) (at e i : ℕ) → length zs ≤ i → Put l m at (lines (take i zs)) e → Put l m at (lines zs) e
 lines-all l m zs at e i h p = rw (take_all i zs h) at p
 
-pub answer-put : (l m n k vs : List ℕ) (found : Inspected) (at w e r : ℕ) → Put l m at (word_of found) w → vs ≡ values_of found → Put m n w (fields vs) e → Put n k e (10 ∷ []) r → Put l k at (answer_line found) r
+pub answer-put : (l m n k vs : List ℕ) (found : Result Header InspectError) (at w e r : ℕ) → Put l m at (word_of found) w → vs ≡ values_of found → Put m n w (fields vs) e → Put n k e (10 ∷ []) r → Put l k at (answer_line found) r
 unfolding answer_line
 answer-put l m n k vs found at w e r p v q s =
     put-append l m k at w r (word_of found) (fields (values_of found) ++ (10 ∷ [])) p (put-append m n k w e r (fields (values_of found)) (10 ∷ []) (rw v at q) s)

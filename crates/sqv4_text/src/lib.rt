@@ -3,14 +3,16 @@
 
 ghost use Rattle.std.specs.Prelude.{◌≡◌, ◌<◌, ◌≤◌, [], ◌∷◌, length};
 ghost use Rattle.decimal.specs.Written.{Put};
-ghost use Rattle.sqv4_text.specs.Lines.{Lists, header_values, values_of, samples_in, fields, lines, word_of, answer_line};
+ghost use Rattle.sqv4.specs.Files.{error_number};
+ghost use Rattle.sqv4_text.specs.Lines.{header_values, values_of, samples_in, fields, lines, word_of, answer_line};
 
 mod pieces;
 mod windows;
 
 use program::STDIN;
-use sqv4::{Header, Inspected};
+use sqv4::{Header, InspectError};
 use std::fs::File;
+use std::ops::ControlFlow;
 
 // The longest file by itself: no longer one can lie in a chip's RAM.
 const LONGEST_READ: usize = 16777216;
@@ -18,93 +20,23 @@ const LONGEST_READ: usize = 16777216;
 // More room than a text ever has left: all of it is written.
 const EVERYTHING: usize = 0xffff_ffff_ffff_ffff;
 
-// What stands next in a batch: a file of so many bytes, nothing, fewer bytes than a length or a file has, or a file that is too long.
-#[derive(Clone, Copy)]
-enum Batched {
-    File(usize),
-    End,
+// Why nothing more of a batch is read: fewer bytes than a length or a file has, or a file that is too long.
+#[derive(Clone, Copy, Debug, PartialEq, Eq)]
+enum BatchError {
     CutShort,
     TooLong,
 }
 
-// Where the text ends after a file, and whether more may follow.
-#[derive(Clone, Copy)]
-struct Next {
-    at: usize,
-    going: bool,
-}
-
-// The numbers of a line: the first `count` of `values`.
-#[derive(Clone, Copy)]
-struct Values {
-    pub count: usize,
-    pub values: [u64; 5],
-}
-
-fn header_values(header: Header) -> Values
-    ensures { Lists result (header_values header) }
-{
-    let variant = header.variant;
-    Values {
-        count: 5,
-        values: [
-            header.version as u64,
-            variant.number() as u64,
-            header.channels as u64,
-            header.sample_rate as u64,
-            header.samples_per_channel as u64,
-        ],
-    }
-}
-
-// The number of a refusal, with its values, or what the header says.
-fn values_of(found: Inspected) -> Values
-    ensures { Lists result (values_of found) }
-{
-    match found {
-        Inspected::Accepted(header) => header_values(header),
-        Inspected::TruncatedHeader => one(4),
-        Inspected::InvalidMagic => one(5),
-        Inspected::UnsupportedVersion(value) => two(6, value),
-        Inspected::InvalidVariant(value) => two(7, value),
-        Inspected::InvalidChannels(value) => two(8, value),
-        Inspected::InvalidReservedByte(value) => two(9, value),
-        Inspected::ZeroSampleRate => one(10),
-        Inspected::InvalidFileLength { expected, actual } => Values {
-            count: 3,
-            values: [11, expected as u64, actual as u64, 0, 0],
-        },
-        Inspected::InvalidStepIndex(index) => two(12, index),
-        Inspected::NonZeroPadding => one(13),
-    }
-}
-
-fn one(number: u64) -> Values
-    ensures { Lists result (number ∷ []) }
-{
-    Values {
-        count: 1,
-        values: [number, 0, 0, 0, 0],
-    }
-}
-
-fn two(number: u64, value: u8) -> Values
-    ensures { Lists result (number ∷ value ∷ []) }
-{
-    Values {
-        count: 2,
-        values: [number, value as u64, 0, 0, 0],
-    }
-}
-
 // The interleaved samples that a file has.
-fn sample_count(found: Inspected) -> usize
+fn sample_count(found: Result<Header, InspectError>) -> usize
     ensures { result ≡ samples_in found }
 {
-    let Inspected::Accepted(header) = found else {
-        return 0;
-    };
-    num::least(header.samples_per_channel, 0xffff_ffff) * (header.channels as usize)
+    match found {
+        Ok(header) => {
+            num::least(header.samples_per_channel, 0xffff_ffff) * (header.channels as usize)
+        }
+        Err(_) => 0,
+    }
 }
 
 // Puts each number into out, after a comma.
@@ -112,13 +44,55 @@ pub fn put_fields(out: &mut [u8], at: usize, values: &[u64]) -> usize
     ensures { Put out.old out.new at (fields values.now) result }
 {
     let mut end = num::least(at, out.len());
-    let mut i = 0;
-    while i < values.len() {
+    for value in values {
         let comma = decimal::put_byte(out, end, 44);
-        end = decimal::put_natural(out, comma, values[i]);
-        i += 1;
+        end = decimal::put_natural(out, comma, *value);
     }
     end
+}
+
+fn put_header(out: &mut [u8], at: usize, header: Header) -> usize
+    ensures { Put out.old out.new at (fields (header_values header)) result }
+{
+    let variant = header.variant;
+    let values = [
+        header.version as u64,
+        u8::from(variant) as u64,
+        header.channels as u64,
+        header.sample_rate as u64,
+        header.samples_per_channel as u64,
+    ];
+    put_fields(out, at, &values)
+}
+
+// The number of a refusal, with its values.
+fn put_error(out: &mut [u8], at: usize, error: InspectError) -> usize
+    ensures { Put out.old out.new at (fields (error_number error)) result }
+{
+    match error {
+        InspectError::TruncatedHeader => put_fields(out, at, &[4]),
+        InspectError::InvalidMagic => put_fields(out, at, &[5]),
+        InspectError::UnsupportedVersion(value) => put_fields(out, at, &[6, value as u64]),
+        InspectError::InvalidVariant(value) => put_fields(out, at, &[7, value as u64]),
+        InspectError::InvalidChannels(value) => put_fields(out, at, &[8, value as u64]),
+        InspectError::InvalidReservedByte(value) => put_fields(out, at, &[9, value as u64]),
+        InspectError::ZeroSampleRate => put_fields(out, at, &[10]),
+        InspectError::InvalidFileLength { expected, actual } => {
+            put_fields(out, at, &[11, expected as u64, actual as u64])
+        }
+        InspectError::InvalidStepIndex(index) => put_fields(out, at, &[12, index as u64]),
+        InspectError::NonZeroPadding => put_fields(out, at, &[13]),
+    }
+}
+
+// The number of a refusal with its values, or what the header says, each after a comma.
+fn put_values(out: &mut [u8], at: usize, found: Result<Header, InspectError>) -> usize
+    ensures { Put out.old out.new at (fields (values_of found)) result }
+{
+    match found {
+        Ok(header) => put_header(out, at, header),
+        Err(error) => put_error(out, at, error),
+    }
 }
 
 // Puts each sample into out, on a line of its own.
@@ -126,34 +100,28 @@ pub fn put_samples(out: &mut [u8], at: usize, samples: &[i16]) -> usize
     ensures { Put out.old out.new at (lines samples.now) result }
 {
     let mut end = num::least(at, out.len());
-    let mut i = 0;
-    while i < samples.len() {
-        let behind = decimal::put_number(out, end, samples[i] as i64);
+    for sample in samples {
+        let behind = decimal::put_number(out, end, *sample as i64);
         end = decimal::put_byte(out, behind, 10);
-        i += 1;
     }
     end
 }
 
-fn put_word(out: &mut [u8], at: usize, found: Inspected) -> usize
+fn put_word(out: &mut [u8], at: usize, found: Result<Header, InspectError>) -> usize
     ensures { Put out.old out.new at (word_of found) result }
 {
-    if let Inspected::Accepted(_) = found {
-        decimal::put_text(out, at, b"file")
-    } else {
-        decimal::put_text(out, at, b"refused")
+    match found {
+        Ok(_) => decimal::put_text(out, at, b"file"),
+        Err(_) => decimal::put_text(out, at, b"refused"),
     }
 }
 
 // Puts the line of the check's answer into out from `at` on, as far as there is room, and answers the place behind it, at most out's end.
-fn put_answer(out: &mut [u8], at: usize, found: Inspected) -> usize
+fn put_answer(out: &mut [u8], at: usize, found: Result<Header, InspectError>) -> usize
     ensures { Put out.old out.new at (answer_line found) result }
 {
-    let listed = values_of(found);
-    let count = listed.count;
-    let values = listed.values;
     let word = put_word(out, at, found);
-    let end = put_fields(out, word, &values[..count]);
+    let end = put_values(out, word, found);
     decimal::put_byte(out, end, 10)
 }
 
@@ -161,12 +129,9 @@ fn print_samples(samples: &[i16], text: &mut [u8], at: usize) -> usize
     ensures { result ≤ length text.new }
 {
     let mut end = at;
-    let mut from = 0;
-    while from < samples.len() {
-        let to = from + num::least(4096, samples.len() - from);
+    for chunk in samples.chunks(4096) {
         let start = program::flush(text, end, 32768);
-        end = put_samples(text, start, &samples[from..to]);
-        from = to;
+        end = put_samples(text, start, chunk);
     }
     num::least(end, text.len())
 }
@@ -182,81 +147,76 @@ fn print_file(file: &[u8], samples: &mut [i16], text: &mut [u8], at: usize) -> u
     print_samples(&samples[..count], text, end)
 }
 
-fn wide(x: u8) -> usize
-    ensures { result < 256 }
-{
-    x as usize
-}
-
 // The number of four bytes, the first lowest.
 fn number(bytes: &[u8; 4]) -> usize {
-    wide(bytes[0]) + 256 * wide(bytes[1]) + 65536 * wide(bytes[2]) + 16777216 * wide(bytes[3])
+    u32::from_le_bytes(*bytes) as usize
 }
 
-// Reads the length that stands before the next file.
-fn read_length() -> Batched {
+// Reads the length that stands before the next file, if there is one.
+fn read_length() -> Result<Option<usize>, BatchError> {
     let mut head = [0u8; 4];
     let got = io::read_full(STDIN, &mut head);
     if got == 0 {
-        return Batched::End;
+        return Ok(None);
     }
     if got < 4 {
-        return Batched::CutShort;
+        return Err(BatchError::CutShort);
     }
-    Batched::File(number(&head))
+    Ok(Some(number(&head)))
 }
 
-// Reads the next file into `file`, which has one byte more than the longest.
-fn read_next(file: &mut [u8]) -> Batched {
-    let next = read_length();
-    let Batched::File(length) = next else {
-        return next;
+// Reads the next file into `file`, which has one byte more than the longest, and answers its length.
+fn read_next(file: &mut [u8]) -> Result<Option<usize>, BatchError> {
+    let Some(length) = read_length()? else {
+        return Ok(None);
     };
     if file.len() <= length {
-        return Batched::TooLong;
+        return Err(BatchError::TooLong);
     }
     if io::read_full(STDIN, &mut file[..length]) < length {
-        return Batched::CutShort;
+        return Err(BatchError::CutShort);
     }
-    next
+    Ok(Some(length))
 }
 
 // Prints why nothing more is read.
-fn stop(text: &mut [u8], at: usize, reason: &[u8]) -> Next {
+fn stop(text: &mut [u8], at: usize, reason: &[u8]) -> ControlFlow<usize, usize> {
     let start = program::flush(text, at, 128);
-    Next {
-        at: decimal::put_text(text, start, reason),
-        going: false,
+    ControlFlow::Break(decimal::put_text(text, start, reason))
+}
+
+// Reads the next file and prints what it is. The text ends at the place that comes back.
+fn print_next(
+    file: &mut [u8],
+    samples: &mut [i16],
+    text: &mut [u8],
+    at: usize,
+) -> ControlFlow<usize, usize> {
+    match read_next(&mut *file) {
+        Ok(Some(length)) => {
+            ControlFlow::Continue(print_file(num::part(file, 0, length), samples, text, at))
+        }
+        Ok(None) => ControlFlow::Break(at),
+        Err(BatchError::CutShort) => stop(text, at, b"cut short\n"),
+        Err(BatchError::TooLong) => stop(text, at, b"too long\n"),
     }
 }
 
-// Reads the next file and prints what it is.
-fn print_next(file: &mut [u8], samples: &mut [i16], text: &mut [u8], at: usize) -> Next {
-    let next = read_next(&mut *file);
-    match next {
-        Batched::File(length) => Next {
-            at: print_file(num::part(file, 0, length), samples, text, at),
-            going: true,
-        },
-        Batched::End => Next { at, going: false },
-        Batched::CutShort => stop(text, at, b"cut short\n"),
-        Batched::TooLong => stop(text, at, b"too long\n"),
-    }
-}
-
-// Prints what every file is, by way of the lent buffers.
-fn print_all(file: &mut [u8], samples: &mut [i16], text: &mut [u8]) {
-    let mut next = Next { at: 0, going: true };
-    let mut files: u64 = 0xffff_ffff_ffff_ffff;
-    while 0 < files {
-        if next.going {
-            next = print_next(file, samples, text, next.at);
-            files -= 1;
-        } else {
-            files = 0;
+// Prints what every file is, by way of the lent buffers, and answers where the text ends.
+fn print_files(file: &mut [u8], samples: &mut [i16], text: &mut [u8]) -> usize {
+    let mut end = 0;
+    for _ in 0..u64::MAX {
+        match print_next(file, samples, text, end) {
+            ControlFlow::Continue(at) => end = at,
+            ControlFlow::Break(at) => return at,
         }
     }
-    program::flush(text, next.at, EVERYTHING);
+    end
+}
+
+fn print_all(file: &mut [u8], samples: &mut [i16], text: &mut [u8]) {
+    let end = print_files(file, samples, &mut *text);
+    program::flush(text, end, EVERYTHING);
 }
 
 fn print_input(file: &mut [u8], samples: &mut [i16]) {

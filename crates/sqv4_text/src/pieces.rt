@@ -1,6 +1,6 @@
 // A file's samples printed fragment by fragment, so that no buffer need hold them all.
 use adpcm::State;
-use sqv4::{Header, Inspected};
+use sqv4::Header;
 
 // Where the printing stands: the next fragment begins at `from`, `rest` samples of a channel are not printed yet, the fragments
 // before left the two channels in these states, and the text ends at `end`.
@@ -14,15 +14,11 @@ pub(crate) struct Place {
 }
 
 pub(crate) fn begun(samples: usize, end: usize) -> Place {
-    let zero = State {
-        predictor: 0,
-        index: 0,
-    };
     Place {
         from: 16,
         rest: samples,
-        first: zero,
-        second: zero,
+        first: State::default(),
+        second: State::default(),
         end,
     }
 }
@@ -68,8 +64,8 @@ fn print_piece(header: Header, place: Place, file: &[u8], text: &mut [u8]) -> Pl
     let mut second = [0i16; 64];
     let both = header.channels == 2;
     let count = num::least(num::least(place.rest, header.frame_samples), 64);
-    let middle = std::num::wrapping_add_usize(place.from, header.frame_size);
-    let to = std::num::wrapping_add_usize(middle, header.frame_size);
+    let middle = place.from.wrapping_add(header.frame_size);
+    let to = middle.wrapping_add(header.frame_size);
     let left = decode_piece(
         header,
         place.first,
@@ -86,7 +82,7 @@ fn print_piece(header: Header, place: Place, file: &[u8], text: &mut [u8]) -> Pl
     let end = put_pieces(text, start, &first, &second, count, both);
     Place {
         from: if both { to } else { middle },
-        rest: std::num::wrapping_sub_usize(place.rest, count),
+        rest: place.rest.wrapping_sub(count),
         first: left,
         second: right,
         end,
@@ -97,10 +93,8 @@ fn print_piece(header: Header, place: Place, file: &[u8], text: &mut [u8]) -> Pl
 pub(crate) fn print_pieces(header: Header, begun: Place, file: &[u8], text: &mut [u8]) -> Place {
     let mut place = begun;
     place.from = 16;
-    let mut left = header.frame_count;
-    while 0 < left {
+    for _ in 0..header.frame_count {
         place = print_piece(header, place, file, &mut *text);
-        left -= 1;
     }
     place
 }
@@ -110,7 +104,7 @@ pub(crate) fn print_pieces(header: Header, begun: Place, file: &[u8], text: &mut
 pub(crate) fn print_file(file: &[u8], text: &mut [u8]) -> usize {
     let found = sqv4::inspect(file);
     let end = crate::put_answer(&mut *text, 0, found);
-    let Inspected::Accepted(header) = found else {
+    let Ok(header) = found else {
         return end;
     };
     let last = print_pieces(header, begun(header.samples_per_channel, end), file, text);

@@ -3,7 +3,7 @@
 use crate::LONGEST_READ;
 use crate::pieces::{Place, begun, print_pieces};
 use program::STDIN;
-use sqv4::{Header, Inspected};
+use sqv4::{Header, InspectError};
 use std::fs::File;
 use std::io::{Seek, SeekFrom};
 
@@ -18,7 +18,7 @@ const FRAGMENTS: usize = 900;
 #[derive(Clone, Copy)]
 struct Walk {
     rest: usize,
-    found: Inspected,
+    found: Result<Header, InspectError>,
     place: Place,
 }
 
@@ -123,7 +123,7 @@ fn printed(header: Header, place: Place, prints: bool, file: &[u8], text: &mut [
 fn passed(header: Header, walk: Walk, prints: bool, file: &[u8], text: &mut [u8]) -> Walk {
     let place = walk.place;
     let found = sqv4::inspect(file);
-    let Inspected::Accepted(own) = found else {
+    let Ok(own) = found else {
         return Walk {
             rest: 0,
             found,
@@ -132,7 +132,7 @@ fn passed(header: Header, walk: Walk, prints: bool, file: &[u8], text: &mut [u8]
     };
     let samples = window_samples(header, walk.rest);
     Walk {
-        rest: std::num::wrapping_sub_usize(walk.rest, samples),
+        rest: walk.rest.wrapping_sub(samples),
         found,
         place: printed(own, place, prints, file, text),
     }
@@ -161,23 +161,25 @@ fn walked(
 ) -> Walk {
     let mut walk = Walk {
         rest: place.rest,
-        found: Inspected::Accepted(header),
+        found: Ok(header),
         place,
     };
-    let mut turns: u64 = 0xffff_ffff;
-    while 0 < turns {
-        if 0 < walk.rest {
-            walk = step(&mut *source, header, walk, prints, &mut *window, &mut *text);
-            turns -= 1;
-        } else {
-            turns = 0;
+    for _ in 0u64..0xffff_ffff {
+        if walk.rest == 0 {
+            return walk;
         }
+        walk = step(&mut *source, header, walk, prints, &mut *window, &mut *text);
     }
     walk
 }
 
 // What the fragments of a file are found to be.
-fn checked(source: &mut Source, header: Header, window: &mut [u8], text: &mut [u8]) -> Inspected {
+fn checked(
+    source: &mut Source,
+    header: Header,
+    window: &mut [u8],
+    text: &mut [u8],
+) -> Result<Header, InspectError> {
     let place = begun(header.samples_per_channel, 0);
     let walk = walked(source, header, place, false, window, text);
     walk.found
@@ -185,7 +187,7 @@ fn checked(source: &mut Source, header: Header, window: &mut [u8], text: &mut [u
 
 // Prints a file that is taken.
 fn print_taken(source: &mut Source, header: Header, window: &mut [u8], text: &mut [u8]) -> usize {
-    let end = crate::put_answer(&mut *text, 0, Inspected::Accepted(header));
+    let end = crate::put_answer(&mut *text, 0, Ok(header));
     again(&mut *source);
     read_head(&mut *source, &mut *window);
     let first = begun(header.samples_per_channel, end);
@@ -196,27 +198,25 @@ fn print_taken(source: &mut Source, header: Header, window: &mut [u8], text: &mu
 
 // Prints a file whose length is right.
 fn print_walked(source: &mut Source, header: Header, window: &mut [u8], text: &mut [u8]) -> usize {
-    let found = checked(&mut *source, header, &mut *window, &mut *text);
-    let Inspected::Accepted(_) = found else {
-        return crate::put_answer(text, 0, found);
-    };
+    if let Err(error) = checked(&mut *source, header, &mut *window, &mut *text) {
+        return crate::put_answer(text, 0, Err(error));
+    }
     print_taken(source, header, window, text)
 }
 
 // The length that a header at the front of a window asks for.
 fn asked(window: &[u8]) -> usize {
-    let found = sqv4::inspect(num::part(window, 0, HEAD));
-    if let Inspected::InvalidFileLength { expected, .. } = found {
-        return expected;
+    match sqv4::inspect(num::part(window, 0, HEAD)) {
+        Err(InspectError::InvalidFileLength { expected, .. }) => expected,
+        _ => HEAD,
     }
-    HEAD
 }
 
 // A file's header: what it is found to be, its samples and the file's length left aside; how many samples of a channel it says; the
 // length that it asks for.
 #[derive(Clone, Copy)]
 struct FileHead {
-    found: Inspected,
+    found: Result<Header, InspectError>,
     samples: usize,
     expected: usize,
 }
@@ -236,40 +236,30 @@ fn file_head(source: &mut Source, window: &mut [u8]) -> FileHead {
 
 // A header with another number of samples.
 fn with_samples(header: Header, samples: usize) -> Header {
-    let variant = header.variant;
     Header {
-        version: header.version,
-        variant,
-        channels: header.channels,
-        sample_rate: header.sample_rate,
         samples_per_channel: samples,
-        frame_samples: header.frame_samples,
-        frame_count: header.frame_count,
-        frame_size: header.frame_size,
+        ..header
     }
 }
 
 // What a file with a header is found to be by its length.
-fn found_of(head: FileHead, length: usize) -> Inspected {
-    let found = head.found;
+fn found_of(head: FileHead, length: usize) -> Result<Header, InspectError> {
+    let header = head.found?;
     let expected = head.expected;
-    let Inspected::Accepted(header) = found else {
-        return found;
-    };
     if length != expected {
-        return Inspected::InvalidFileLength {
+        return Err(InspectError::InvalidFileLength {
             expected,
             actual: length,
-        };
+        });
     }
-    Inspected::Accepted(with_samples(header, head.samples))
+    Ok(with_samples(header, head.samples))
 }
 
 // Prints a file that is not too long.
 fn print_opened(source: &mut Source, length: usize, window: &mut [u8], text: &mut [u8]) -> usize {
     let head = file_head(&mut *source, &mut *window);
     let found = found_of(head, length);
-    let Inspected::Accepted(header) = found else {
+    let Ok(header) = found else {
         return crate::put_answer(text, 0, found);
     };
     print_walked(source, header, window, text)

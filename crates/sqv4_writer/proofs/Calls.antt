@@ -1,4 +1,5 @@
 -- The theorems in the words of `write_stream`'s contract: of a buffer in which it wrote a file of m bytes. Assumes nothing.
+use Rattle.std.specs.Prelude.{Ok}
 use mathlib.Core.Path.{◌≡◌, ap, ◌∙◌}
 use mathlib.Core.List.{List}
 use Prim.Native.Nat.{ℕ, ◌<◌, ◌^◌}
@@ -6,20 +7,18 @@ use lib.IntN.{ℤ}
 use lib.ListN.{length, take, drop}
 use lib.Seq.{sets}
 use Rattle.adpcm.specs.declared.Variant.{Variant}
-use Rattle.sqv4.specs.declared.Inspected.TheVariants.{Accepted}
 use Rattle.sqv4.specs.Files.{inspected}
 use Rattle.sqv4.specs.Whole.{decoded_into}
-use Rattle.sqv4_writer.specs.declared.StreamAnswer.TheVariants.{Written}
 use Rattle.sqv4_writer.specs.Streams.{answer_for, written_into, file_of, header_for, chosen_for}
-use Rattle.sqv4_writer.proofs.Terms.{Wrote, wrote}
+use Rattle.sqv4_writer.proofs.Limits.{Wrote, wrote}
 use Rattle.sqv4_writer.proofs.Written.{file-there, rest-there}
 use Rattle.sqv4_writer.proofs.Passes.{passes}
 use Rattle.sqv4_writer.proofs.Decodes.{decoded}
 
-module _ (xs : List ℤ) (k : Variant) (rate volume index : ℕ) (out : List ℕ) (m : ℕ) (e : answer_for (length xs) k rate volume index (length out) ≡ Written m) where
+module _ (xs : List ℤ) (k : Variant) (rate volume index : ℕ) (out : List ℕ) (m : ℕ) (e : answer_for (length xs) k rate volume index (length out) ≡ Ok m) where
   -- the buffer afterwards
   abbrev after : List ℕ
-  after = written_into out (file_of xs k rate volume index) (Written m)
+  after = written_into out (file_of xs k rate volume index) (Ok m)
 
   w : Wrote (length xs) k rate volume index (length out) m
   w = wrote (length xs) k rate volume index (length out) m e
@@ -32,7 +31,7 @@ module _ (xs : List ℤ) (k : Variant) (rate volume index : ℕ) (out : List ℕ
   past = rw w.long (rest-there xs k rate volume index out w.room_for)
 
   -- `inspect` accepts them, with exactly this header
-  pub accepted : rate < 2 ^ 32 → inspected (take m after) ≡ Accepted (header_for k rate (length xs))
+  pub accepted : rate < 2 ^ 32 → inspected (take m after) ≡ Ok (header_for k rate (length xs))
   accepted wide = ap inspected there ∙ passes xs k rate volume index w.terms wide
 
   -- and `decode` gives exactly the values chosen

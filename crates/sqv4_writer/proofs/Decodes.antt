@@ -21,7 +21,7 @@ use Rattle.sqv4.specs.Whole.{samples_from, state_from, state_after, pieces, chan
 use Rattle.sqv4_writer.specs.Choice.{value_at, distance_of, last_code, code_for, codes_for, values_for}
 use Rattle.sqv4_writer.specs.Packing.{packed}
 use Rattle.sqv4_writer.specs.Streams.{fragment_samples, fragment_count, samples_at, pieces_of, fragment_for, file_of, header_for, chosen_for}
-use Rattle.sqv4_writer.proofs.Terms.{InTerms}
+use Rattle.sqv4_writer.proofs.Limits.{InTerms}
 use Rattle.sqv4_writer.proofs.Nearest.{IsNearest, nearest}
 use Rattle.sqv4_writer.proofs.Packed.{number_at}
 use Rattle.sqv4_writer.proofs.Filled.{length-codes-for}

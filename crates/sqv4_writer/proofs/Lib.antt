@@ -5,7 +5,7 @@ pub mod Held
 pub mod Stored
 pub mod Filled
 pub mod Series
-pub mod Terms
+pub mod Limits
 pub mod Written
 pub mod Passes
 pub mod Decodes

@@ -1,4 +1,5 @@
 -- The bytes of a written file: what its header says, and each of its fragments. Assumes nothing.
+use Rattle.std.specs.Prelude.{Ok}
 use mathlib.Core.Path.{◌≡◌, refl, ap, ap₂, ◌∙◌, subst}
 use mathlib.Core.Bool.{true}
 use mathlib.Core.List.{List, [], ◌∷◌, append-nil}
@@ -14,7 +15,6 @@ use Rattle.num.specs.Bytes.{le}
 use Rattle.adpcm.specs.declared.Variant.{Variant}
 use Rattle.adpcm.specs.declared.Variant.TheVariants.{H, L, LPlus}
 use Rattle.adpcm.specs.declared.State.{State}
-use Rattle.adpcm.specs.declared.VariantByte.TheVariants.{Known}
 use Rattle.adpcm.specs.Codes.{variant_of, variant_number, bits_of, payload_bytes, fragment_size, decode_code}
 use Rattle.sqv4.specs.declared.Header.{Header}
 use Rattle.sqv4.specs.Files.{magic, header_of, fragment_at}
@@ -50,7 +50,7 @@ module _ (k : Variant) (volume : ℕ) (s : State) (xs : List ℤ) where
 pub length-samples-at : (xs : List ℤ) (p : ℕ) → length (samples_at xs p) ≡ min (length xs - p * fragment_samples) fragment_samples
 length-samples-at xs p = simp (length-take, length-drop) (omega arith)
 
-pub known-again : (k : Variant) → variant_of (variant_number k) ≡ Known k
+pub known-again : (k : Variant) → variant_of (variant_number k) ≡ Ok k
 known-again H = refl
 known-again L = refl
 known-again LPlus = refl

@@ -1,5 +1,5 @@
 -- A mono file of version 3 made from samples; the calls that are turned away, with document 02's numbers.
-use Rattle.std.specs.Prelude.{Bool, true, cond, List, [], ◌∷◌, ◌++◌, ℕ, zero, suc, ◌+◌, ◌*◌, eqb, ltb, ℤ, length}
+use Rattle.std.specs.Prelude.{Bool, true, cond, List, [], ◌∷◌, ◌++◌, ℕ, zero, suc, ◌+◌, ◌*◌, eqb, ltb, ℤ, length, Result, Ok, Err}
 use Rattle.std.proofs.lemmas.List.Edits.{sets}
 use Rattle.num.specs.Lists.{part}
 use Rattle.adpcm.specs.declared.Variant.{Variant}
@@ -7,8 +7,8 @@ use Rattle.adpcm.specs.Codes.{variant_number, fragment_size}
 use Rattle.sqv4.specs.declared.Header.{Header}
 use Rattle.sqv4.specs.Files.{frame_count_of}
 use Rattle.sqv4.specs.Decoding.{start_of}
-use Rattle.sqv4_writer.specs.declared.StreamAnswer.{StreamAnswer}
-use Rattle.sqv4_writer.specs.declared.StreamAnswer.TheVariants.{Written, OutOfTerms, OutputBuffer}
+use Rattle.sqv4_writer.specs.declared.StreamError.{StreamError}
+use Rattle.sqv4_writer.specs.declared.StreamError.TheVariants.{OutOfTerms, OutputBuffer}
 use Rattle.sqv4_writer.specs.Choice.{codes_for, values_for}
 use Rattle.sqv4_writer.specs.Packing.{bytes_of, packed}
 
@@ -83,17 +83,19 @@ unfoldable pub out_of_terms : ℕ → ℕ → ℕ → ℕ → Bool
 out_of_terms n rate volume index = cond (eqb rate 0) true (cond (eqb volume 0) true (cond (ltb max_step_index index) true (ltb max_samples n)))
 
 -- the answer for n samples and a buffer of `room` bytes
-unfoldable pub answer_for : ℕ → Variant → ℕ → ℕ → ℕ → ℕ → StreamAnswer
-answer_for n k rate volume index room = cond (out_of_terms n rate volume index) OutOfTerms (cond (ltb room (length_for k n)) OutputBuffer (Written (length_for k n)))
+unfoldable pub answer_for : ℕ → Variant → ℕ → ℕ → ℕ → ℕ → Result ℕ StreamError
+answer_for n k rate volume index room = cond (out_of_terms n rate volume index) (Err OutOfTerms) (cond (ltb room (length_for k n)) (Err OutputBuffer) (Ok (length_for k n)))
 
 -- the buffer after the call: the file and what stood past it, or what it was
-abbrev pub written_into : List ℕ → List ℕ → StreamAnswer → List ℕ
-written_into out file (Written n) = sets out 0 file
-written_into out file OutOfTerms = out
-written_into out file OutputBuffer = out
+abbrev pub written_into : List ℕ → List ℕ → Result ℕ StreamError → List ℕ
+written_into out file (Ok n) = sets out 0 file
+written_into out file (Err e) = out
 
 -- document 02's number for a refusal
-abbrev pub number_of : StreamAnswer → List ℕ
-number_of (Written n) = []
-number_of OutOfTerms = 20 ∷ []
-number_of OutputBuffer = 21 ∷ []
+abbrev pub error_number : StreamError → ℕ
+error_number OutOfTerms = 20
+error_number OutputBuffer = 21
+
+abbrev pub number_of : Result ℕ StreamError → List ℕ
+number_of (Ok n) = []
+number_of (Err e) = error_number e ∷ []

@@ -5,7 +5,7 @@ ghost use Rattle.adpcm.specs.Ima.{step_sizes};
 ghost use Rattle.sqv4.specs.Decoding.{start_of};
 ghost use Rattle.sqv4_writer.specs.Choice.{last_code, distance_of, code_for, codes_for};
 
-use crate::VERSION;
+use crate::{Terms, VERSION};
 use adpcm::{State, Variant};
 
 // A variant's largest code.
@@ -37,9 +37,8 @@ fn nearest_code(variant: Variant, state: State, size: u16, volume: u8, sample: i
     let last = last_code(variant);
     let mut best = 0u8;
     let mut least = distance(variant, state, size, volume, sample, 0);
-    let mut code = 0u8;
-    while code < last {
-        code += 1;
+    for below in 0..last {
+        let code = below + 1;
         let far = distance(variant, state, size, volume, sample, code);
         if far < least {
             best = code;
@@ -50,23 +49,22 @@ fn nearest_code(variant: Variant, state: State, size: u16, volume: u8, sample: i
 }
 
 // A fragment's codes, and zeros behind them; the state goes on with each.
-pub(crate) fn choose_codes(samples: &[i16], variant: Variant, volume: u8, index: u8) -> [u8; 64]
+pub(crate) fn choose_codes(samples: &[i16], terms: Terms) -> [u8; 64]
     requires { length samples.now ≤ 63 }
-    ensures { result ≡ sets (replicate 64 0) 0 (codes_for variant volume (start_of index) samples.now) }
+    ensures { result ≡ sets (replicate 64 0) 0 (codes_for terms.variant terms.volume (start_of terms.index) samples.now) }
 {
+    let variant = terms.variant;
     let steps = adpcm::step_sizes();
     let mut codes = [0u8; 64];
     let mut state = State {
         predictor: 0,
-        index: num::least(index as usize, 88),
+        index: num::least(terms.index as usize, 88),
     };
-    let mut i = 0;
-    while i < samples.len() {
+    for i in 0..samples.len() {
         let at = num::least(state.index, 88);
-        let code = nearest_code(variant, state, steps[at], volume, samples[i]);
+        let code = nearest_code(variant, state, steps[at], terms.volume, samples[i]);
         codes[i] = code;
         state = adpcm::decode_at(VERSION, variant, state, steps[at], code);
-        i += 1;
     }
     codes
 }

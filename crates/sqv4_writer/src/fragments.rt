@@ -5,7 +5,7 @@ ghost use Rattle.sqv4_writer.specs.Streams.{header_bytes, fragment_for, fragment
 
 use crate::choice::choose_codes;
 use crate::packing::{byte_from, pack, store};
-use crate::{FRAGMENT_SAMPLES, HEADER_SIZE, VERSION};
+use crate::{FRAGMENT_SAMPLES, HEADER_SIZE, Terms, VERSION};
 use adpcm::Variant;
 
 // The 16 bytes ahead of the fragments.
@@ -19,7 +19,7 @@ pub(crate) fn header_bytes(variant: Variant, rate: u32, samples: u32) -> [u8; 16
         name[2],
         name[3],
         VERSION,
-        variant.number(),
+        u8::from(variant),
         1,
         0,
         byte_from(rate, 0),
@@ -43,45 +43,32 @@ pub(crate) fn fragment_count(samples: usize) -> usize
 }
 
 // A fragment of at most 63 samples.
-fn write_fragment(
-    samples: &[i16],
-    variant: Variant,
-    volume: u8,
-    index: u8,
-    out: &mut [u8],
-    at: usize,
-)
+fn write_fragment(samples: &[i16], terms: Terms, out: &mut [u8], at: usize)
     requires { (length samples.now ≤ 63) × (at < 2 ^ 61) }
-    ensures { out.new ≡ sets out.old at (fragment_for variant volume index samples.now) }
+    ensures { out.new ≡ sets out.old at (fragment_for terms.variant terms.volume terms.index samples.now) }
 {
-    let codes = choose_codes(samples, variant, volume, index);
-    store(out, at, volume);
-    store(out, at + 1, index);
+    let variant = terms.variant;
+    let codes = choose_codes(samples, terms);
+    store(out, at, terms.volume);
+    store(out, at + 1, terms.index);
     pack(codes, variant.bits(), out, at + 2);
 }
 
 // All fragments.
-pub(crate) fn write_fragments(
-    samples: &[i16],
-    variant: Variant,
-    volume: u8,
-    index: u8,
-    out: &mut [u8],
-)
+pub(crate) fn write_fragments(samples: &[i16], terms: Terms, out: &mut [u8])
     requires { length samples.now ≤ max_samples }
     ensures { out.new
         ≡ sets out.old header_size
-        (fragments_for variant volume index samples.now (fragment_count (length samples.now))) }
+        (fragments_for terms.variant terms.volume terms.index samples.now (fragment_count (length samples.now))) }
 {
+    let variant = terms.variant;
     let size = variant.fragment_size();
     let count = fragment_count(samples.len());
     let mut at = HEADER_SIZE;
-    let mut fragment = 0;
-    while fragment < count {
+    for fragment in 0..count {
         let from = fragment * FRAGMENT_SAMPLES;
         let to = num::least(from + FRAGMENT_SAMPLES, samples.len());
-        write_fragment(&samples[from..to], variant, volume, index, out, at);
+        write_fragment(&samples[from..to], terms, out, at);
         at += size;
-        fragment += 1;
     }
 }

@@ -6,12 +6,21 @@ mod fragments;
 mod packing;
 mod streams;
 
+use adpcm::Variant;
 pub use streams::{answer_for, write_stream};
 
-// What writing a stream answers: the file's length, or why there is no file.
+// What a file is written with: one volume and one step index for all fragments.
 #[derive(Clone, Copy)]
-pub enum StreamAnswer {
-    Written(usize),
+pub struct Terms {
+    pub variant: Variant,
+    pub rate: u32,
+    pub volume: u8,
+    pub index: u8,
+}
+
+// Why there is no file.
+#[derive(Clone, Copy, Debug, PartialEq, Eq)]
+pub enum StreamError {
     // A rate or a volume of zero, a step index above 88, or too many samples.
     OutOfTerms,
     // A buffer shorter than the file.

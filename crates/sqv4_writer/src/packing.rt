@@ -16,10 +16,8 @@ pub(crate) fn store(out: &mut [u8], at: usize, byte: u8)
 pub(crate) fn store_first(out: &mut [u8], bytes: &[u8])
     ensures { out.new ≡ sets out.old 0 bytes.now }
 {
-    let mut i = 0;
-    while i < bytes.len() {
+    for i in 0..bytes.len() {
         store(out, i, bytes[i]);
-        i += 1;
     }
 }
 
@@ -40,11 +38,9 @@ pub(crate) fn pack(codes: [u8; 64], bits: usize, out: &mut [u8], at: usize)
     let mut held: u32 = 0;
     let mut filled: usize = 0;
     let mut end = at;
-    let mut i = 0;
-    while i < 64 {
-        held |= (codes[i] as u32) << (filled as u32);
+    for code in codes {
+        held |= (code as u32) << (filled as u32);
         filled += bits;
-        i += 1;
         if 8 <= filled {
             store(out, end, (held & 255) as u8);
             held >>= 8;

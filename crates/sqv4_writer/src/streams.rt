@@ -1,23 +1,23 @@
 // The call: what it refuses, in the order of docs/SPECIFICATION.md, section 12, and the file.
-ghost use Rattle.std.specs.Prelude.{◌≡◌, length, get_or, ◌≤◌};
+ghost use Rattle.std.specs.Prelude.{◌≡◌, length, ◌≤◌};
 ghost use Rattle.std.proofs.lemmas.List.Edits.{sets};
-ghost use Rattle.sqv4_writer.specs.Streams.{out_of_terms, length_for, answer_for, written_into, file_of, number_of, max_samples};
+ghost use Rattle.sqv4_writer.specs.Streams.{out_of_terms, length_for, answer_for, written_into, file_of, error_number, max_samples};
 
 use crate::fragments::{fragment_count, header_bytes, write_fragments};
 use crate::packing::store_first;
-use crate::{HEADER_SIZE, MAX_SAMPLES, MAX_STEP_INDEX, StreamAnswer};
+use crate::{HEADER_SIZE, MAX_SAMPLES, MAX_STEP_INDEX, StreamError, Terms};
 use adpcm::Variant;
 
-fn out_of_terms(samples: usize, rate: u32, volume: u8, index: u8) -> bool
-    ensures { result ≡ out_of_terms samples rate volume index }
+fn out_of_terms(samples: usize, terms: Terms) -> bool
+    ensures { result ≡ out_of_terms samples terms.rate terms.volume terms.index }
 {
-    if rate == 0 {
+    if terms.rate == 0 {
         return true;
     }
-    if volume == 0 {
+    if terms.volume == 0 {
         return true;
     }
-    if MAX_STEP_INDEX < index {
+    if MAX_STEP_INDEX < terms.index {
         return true;
     }
     MAX_SAMPLES < samples
@@ -31,68 +31,49 @@ fn file_length(variant: Variant, samples: usize) -> usize
 }
 
 // What the call below answers for a number of samples and a buffer of `room` bytes.
-pub fn answer_for(
-    samples: usize,
-    variant: Variant,
-    rate: u32,
-    volume: u8,
-    index: u8,
-    room: usize,
-) -> StreamAnswer
-    ensures { result ≡ answer_for samples variant rate volume index room }
+pub fn answer_for(samples: usize, terms: Terms, room: usize) -> Result<usize, StreamError>
+    ensures { result ≡ answer_for samples terms.variant terms.rate terms.volume terms.index room }
 {
-    if out_of_terms(samples, rate, volume, index) {
-        return StreamAnswer::OutOfTerms;
+    if out_of_terms(samples, terms) {
+        return Err(StreamError::OutOfTerms);
     }
-    let length = file_length(variant, samples);
+    let length = file_length(terms.variant, samples);
     if room < length {
-        return StreamAnswer::OutputBuffer;
+        return Err(StreamError::OutputBuffer);
     }
-    StreamAnswer::Written(length)
+    Ok(length)
 }
 
 // The file itself.
-fn write_file(samples: &[i16], variant: Variant, rate: u32, volume: u8, index: u8, out: &mut [u8])
+fn write_file(samples: &[i16], terms: Terms, out: &mut [u8])
     requires { length samples.now ≤ max_samples }
-    ensures { out.new ≡ sets out.old 0 (file_of samples.now variant rate volume index) }
+    ensures { out.new ≡ sets out.old 0 (file_of samples.now terms.variant terms.rate terms.volume terms.index) }
 {
-    let header = header_bytes(variant, rate, samples.len() as u32);
+    let header = header_bytes(terms.variant, terms.rate, samples.len() as u32);
     store_first(out, &header);
-    write_fragments(samples, variant, volume, index, out);
+    write_fragments(samples, terms, out);
 }
 
-// Writes the file of some samples into `out`, and what stands past it stays. A call that is turned away writes nothing.
-pub fn write_stream(
-    samples: &[i16],
-    variant: Variant,
-    rate: u32,
-    volume: u8,
-    index: u8,
-    out: &mut [u8],
-) -> StreamAnswer
-    ensures result { result ≡ answer_for (length samples.now) variant rate volume index (length out.old) }
-    ensures out { out.new ≡ written_into out.old (file_of samples.now variant rate volume index) result }
+// Writes the file of some samples into `out`, and what stands past it stays, and answers its length. A call that is turned away writes nothing.
+pub fn write_stream(samples: &[i16], terms: Terms, out: &mut [u8]) -> Result<usize, StreamError>
+    ensures result { result
+        ≡ answer_for (length samples.now) terms.variant terms.rate terms.volume terms.index (length out.old) }
+    ensures out { out.new
+        ≡ written_into out.old (file_of samples.now terms.variant terms.rate terms.volume terms.index) result }
 {
-    let answer = answer_for(samples.len(), variant, rate, volume, index, out.len());
-    match answer {
-        StreamAnswer::Written(_) => {
-            write_file(samples, variant, rate, volume, index, out);
-            answer
-        }
-        StreamAnswer::OutOfTerms => answer,
-        StreamAnswer::OutputBuffer => answer,
-    }
+    let length = answer_for(samples.len(), terms, out.len())?;
+    write_file(samples, terms, out);
+    Ok(length)
 }
 
-impl StreamAnswer {
-    // The number of a refusal (docs/SPECIFICATION.md, section 12); 0 where it is none.
+impl StreamError {
+    // The number of a refusal (docs/SPECIFICATION.md, section 12).
     pub fn number(self) -> u8
-        ensures { result ≡ get_or (number_of self) 0 0 }
+        ensures { result ≡ error_number self }
     {
         match self {
-            StreamAnswer::Written(_) => 0,
-            StreamAnswer::OutOfTerms => 20,
-            StreamAnswer::OutputBuffer => 21,
+            StreamError::OutOfTerms => 20,
+            StreamError::OutputBuffer => 21,
         }
     }
 }

@@ -1,12 +1,11 @@
 -- An accepted cache: the Boolean as facts, and back; what the tick asks for. Assumes nothing.
+use Rattle.std.specs.Prelude.{Option, Some, None}
 use Rattle.std.proofs.Common.{◌≡◌, ℕ, ◌-◌, ◌<◌, ◌≤◌, Bool, true, false, cond, ltb, leb, List, length, sym, refl, ap, ◌∙◌, subst, arith, length-drop, length-take, ltb-true, lt-ltb, eq-eqb, eqb-true, le-leb, leb-true}
 use Rattle.num.specs.Lists.{part}
 use Rattle.num.proofs.Choice.{cond-by, never}
 use Rattle.adpcm.specs.declared.Variant.{Variant}
 use Rattle.sqv4.specs.Files.{frame_samples_of, frame_size_of}
 use Rattle.stream.specs.declared.Info.{Info}
-use Rattle.stream.specs.declared.Held.{Held}
-use Rattle.stream.specs.declared.Held.TheVariants as held
 use Rattle.stream.specs.declared.StreamCache.{StreamCache}
 use Rattle.stream.specs.Cache.{Plays}
 use Rattle.stream.specs.Accepted.{both, sizes_fit, file_fits, held_fits, accepts_cache, Fit}
@@ -65,7 +64,7 @@ fits-is k c bytes f =
 -- ---- a valid cache that is accepted
 pub record AcceptedAs (c : StreamCache) (start end length : ℕ) : Type 0 where
   pub variant : Variant
-  pub held : c.variant ≡ held.Is variant
+  pub held : c.variant ≡ Some variant
   pub range : (start < end) × (end ≤ length)
   pub fit : Fit variant c (end - start)
 
@@ -84,9 +83,9 @@ module _ (c : StreamCache) (start end length : ℕ) where
       let q = both_true _ _ p.1 in
       go c.variant refl q.1 (ltb-true start end p.0, leb-true end length q.0)
     where
-      go : (h : Held) → c.variant ≡ h → held_fits h c (end - start) ≡ true → (start < end) × (end ≤ length) → AcceptedAs c start end length
-      go held.Nothing e f r = never (sym f)
-      go (held.Is k) e f r = record { variant = k; held = e; range = r; fit = fits-true k c (end - start) f }
+      go : (h : Option Variant) → c.variant ≡ h → held_fits h c (end - start) ≡ true → (start < end) × (end ≤ length) → AcceptedAs c start end length
+      go None e f r = never (sym f)
+      go (Some k) e f r = record { variant = k; held = e; range = r; fit = fits-true k c (end - start) f }
 
   pub as-accepted : AcceptedAs c start end length → accepts_cache c start end length ≡ true
   as-accepted w =
@@ -95,7 +94,7 @@ module _ (c : StreamCache) (start end length : ℕ) where
       valid : both (ltb start end) (both (leb end length) (held_fits c.variant c (end - start))) ≡ true
       valid =
           both_is _ _ (lt-ltb start end w.range.0)
-          (both_is _ _ (le-leb end length w.range.1) (ap (λ (h : Held). held_fits h c (end - start)) w.held ∙ fits-is w.variant c (end - start) w.fit))
+          (both_is _ _ (le-leb end length w.range.1) (ap (λ (h : Option Variant). held_fits h c (end - start)) w.held ∙ fits-is w.variant c (end - start) w.fit))
 
       self : (b : Bool) → b ≡ cond b true false
       self true = refl
@@ -115,5 +114,5 @@ pub accepted-ready : (ram : List ℕ) (c : StreamCache) (start end : ℕ) → Ac
 accepted-ready ram c start end w =
     record { plays = λ k e. subst (λ (x : Variant). Plays (part ram start (end - start)) x c.info) (same k e) (fit-plays (part ram start (end - start)) w.variant c (end - start) (long-part ram start end w.range) w.fit); again = fit-loop w.variant c (end - start) w.fit }
   where
-    same : (k : Variant) → c.variant ≡ held.Is k → w.variant ≡ k
+    same : (k : Variant) → c.variant ≡ Some k → w.variant ≡ k
     same k e = let f = w.held in cc

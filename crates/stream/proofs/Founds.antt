@@ -1,8 +1,10 @@
 -- The ways of the tick: what the cache finds. Assumes nothing.
+use Rattle.std.specs.Prelude.{Option}
+use Rattle.stream.specs.declared.Info.{Info}
+use Rattle.adpcm.specs.declared.Variant.{Variant}
 use Rattle.std.proofs.Common.{◌≡◌, ℕ, ◌-◌, Bool, true, false, cond, eqb, List, length, sym, ap, ◌∙◌}
 use Rattle.num.specs.Lists.{part}
 use Rattle.stream.specs.declared.Play.{Play}
-use Rattle.stream.specs.declared.Opened.{Opened}
 use Rattle.stream.specs.File.{source_of, opened_in}
 use Rattle.stream.specs.Cache.{Stock}
 use Rattle.stream.specs.Accepted.{accepts_cache}
@@ -31,7 +33,7 @@ module _ (ram : List ℕ) (p : Play) (s : Stock) where
   unfolding cached_found
   found-odd e v a = choose (eqb (length s.samples) 128) _ _ e ∙ choose s.cache.valid _ _ v ∙ refuse (accepts_cache s.cache p.start p.end (length ram)) _ _ a
 
-  pub found-fresh : eqb (length s.samples) 128 ≡ true → s.cache.valid ≡ false → (o : Opened) → opened_in ram p.wants_v3 p.start p.end p.loop_addr ≡ o → cached_found ram p s ≡ fresh_found file s.samples o
+  pub found-fresh : eqb (length s.samples) 128 ≡ true → s.cache.valid ≡ false → (o : Option (Variant × Info)) → opened_in ram p.wants_v3 p.start p.end p.loop_addr ≡ o → cached_found ram p s ≡ fresh_found file s.samples o
   unfolding cached_found source_of
   found-fresh e v o q = choose (eqb (length s.samples) 128) _ _ e ∙ refuse s.cache.valid _ _ v ∙ ap (fresh_found file s.samples) q
 

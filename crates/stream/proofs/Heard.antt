@@ -1,4 +1,5 @@
 -- The tick of a valid cache, from what the code finds. Assumes nothing.
+use Rattle.std.specs.Prelude.{Option, Some, None}
 use Rattle.std.proofs.Common.{◌≡◌, ℕ, ◌+◌, ◌/◌, ◌<◌, Bool, true, false, cond, eqb, ltb, List, ℤ, sym, ap, ◌∙◌, arith, ltb-true}
 use borrow.Author.Tests.{eqb-false}
 use Rattle.num.proofs.Choice.{cond-by, never}
@@ -7,10 +8,6 @@ use Rattle.sqv4.specs.Files.{frame_samples_of}
 use Rattle.tone.specs.Phase.{whole, fraction as fraction_of, stepped as stepped_by}
 use Rattle.tone.specs.Taps.{raised_sample, blend_samples}
 use Rattle.stream.specs.declared.Info.{Info}
-use Rattle.stream.specs.declared.Held.{Held}
-use Rattle.stream.specs.declared.Held.TheVariants.{Is}
-use Rattle.stream.specs.declared.Plan.{Plan}
-use Rattle.stream.specs.declared.Plan.TheVariants.{Stop, Sample}
 use Rattle.stream.specs.declared.Play.{Play}
 use Rattle.stream.specs.declared.StreamCache.{StreamCache}
 use Rattle.stream.specs.declared.Streamed.{Streamed}
@@ -41,28 +38,28 @@ read_is d k i s at f c samples x e p q r =
     λ j. record { left = w j; sample = (r ∙ ap (λ (y : Stock). tap_at i.version y.samples at) w) j }
 
 -- ---- the tick by its plan
-module _ (d : List ℕ) (v : Streamed) (samples : List ℤ) (p : Play) (k : Variant) (e : v.cache.variant ≡ Is k) where
-  pub by-plan : (plan : Plan) → plan_of v.cache.info p v.phase ≡ plan
+module _ (d : List ℕ) (v : Streamed) (samples : List ℤ) (p : Play) (k : Variant) (e : v.cache.variant ≡ Some k) where
+  pub by-plan : (plan : Option (ℕ × ℕ)) → plan_of v.cache.info p v.phase ≡ plan
       → played_by (cached_read d k v.cache.info) v.cache.info p v.phase v.active (stock v.cache samples) plan
       ≡ tick_of p v.phase v.active (held_found d (stock v.cache samples) v.cache.variant)
   by-plan plan q =
       sym
-      (ap (λ (h : Held). tick_of p v.phase v.active (held_found d (stock v.cache samples) h)) e
+      (ap (λ (h : Option Variant). tick_of p v.phase v.active (held_found d (stock v.cache samples) h)) e
       ∙ ap (played_by (cached_read d k v.cache.info) v.cache.info p v.phase v.active (stock v.cache samples)) q)
 
-  pub sampled : (at from frac : ℕ) (h : Given Stock) (phase : ℕ) → plan_of v.cache.info p v.phase ≡ Sample at from → frac ≡ fraction_of v.phase
+  pub sampled : (at from frac : ℕ) (h : Given Stock) (phase : ℕ) → plan_of v.cache.info p v.phase ≡ Some (at, from) → frac ≡ fraction_of v.phase
       → h ≡ heard_at (cached_read d k v.cache.info) v.cache.info p frac (stock v.cache samples) at → phase ≡ stepped_by from p.step
       → ◌≡◌ {A = StreamTick Stock} (record { stream = h.left; phase = phase; active = v.active; value = h.sample }) (tick_of p v.phase v.active (held_found d (stock v.cache samples) v.cache.variant))
   sampled at from frac h phase q f r t =
       let r' : h ≡ heard_at (cached_read d k v.cache.info) v.cache.info p (fraction_of v.phase) (stock v.cache samples) at = r ∙ ap (λ (x : ℕ). heard_at (cached_read d k v.cache.info) v.cache.info p x (stock v.cache samples) at) f in
-      (λ j. record { stream = (r' j).left; phase = t j; active = v.active; value = (r' j).sample }) ∙ by-plan (Sample at from) q
+      (λ j. record { stream = (r' j).left; phase = t j; active = v.active; value = (r' j).sample }) ∙ by-plan (Some (at, from)) q
 
 -- what a plan asks for is there
-abbrev pub Asks : ℕ → Plan → Type 0
-Asks n Stop = Unit {0}
-Asks n (Sample at from) = at < n
+abbrev pub Asks : ℕ → Option (ℕ × ℕ) → Type 0
+Asks n None = Unit {0}
+Asks n (Some (at, from)) = at < n
 
-pub record Asked (n : ℕ) (plan : Plan) : Type 0 where
+pub record Asked (n : ℕ) (plan : Option (ℕ × ℕ)) : Type 0 where
   pub it : Asks n plan
 
 pub plan-asks : (i : Info) (p : Play) (phase : ℕ) → (0 < i.sample_count → i.loop_sample < i.sample_count) → Asked i.sample_count (plan_of i p phase)

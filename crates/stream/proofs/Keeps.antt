@@ -1,4 +1,5 @@
 -- Every tick leaves an accepted cache accepted, coherent or not, and the samples as many as they were. Assumes nothing.
+use Rattle.std.specs.Prelude.{Option, Some, None}
 use Rattle.std.proofs.Common.{◌≡◌, ℕ, zero, suc, ◌+◌, ◌-◌, ◌*◌, ◌/◌, ◌%◌, ◌<◌, ◌≤◌, Bool, true, false, eqb, ltb, List, length, ℤ, pos, sym, refl, ◌∙◌, subst, arith, ltb-false, lt-ltb, eq-eqb, eqb-true}
 use lib.ListN.{length-replicate}
 use lib.Seq.{length-sets}
@@ -11,14 +12,6 @@ use Rattle.sqv4.specs.Files.{frame_samples_of}
 use Rattle.tone.specs.Phase.{fraction}
 use Rattle.stream.specs.declared.Info.{Info}
 use Rattle.stream.specs.declared.Play.{Play}
-use Rattle.stream.specs.declared.Plan.{Plan}
-use Rattle.stream.specs.declared.Plan.TheVariants.{Stop, Sample}
-use Rattle.stream.specs.declared.Held.{Held}
-use Rattle.stream.specs.declared.Held.TheVariants.{Is}
-use Rattle.stream.specs.declared.Cached.{Cached}
-use Rattle.stream.specs.declared.Cached.TheVariants.{Nothing, Frame}
-use Rattle.stream.specs.declared.Opened.{Opened}
-use Rattle.stream.specs.declared.Opened.TheVariants.{NoFile, File}
 use Rattle.stream.specs.declared.StreamCache.{StreamCache}
 use Rattle.stream.specs.File.{opened_in}
 use Rattle.stream.specs.Cache.{Stock, stock, emptied, filled_with, rewound_from, cached_at, is_held, stored_as, Plays, frames_of, fragment_samples, fragment_state, load, step, steps, ensure}
@@ -33,7 +26,7 @@ use Rattle.stream.proofs.Openings.{opened-accepted}
 use Rattle.stream.proofs.Heard.{Asks, plan-asks, mixes-next}
 use Rattle.stream.proofs.Founds.{found-short, found-held, found-fresh, tick-by}
 
-frame-fits : (f parity frames : ℕ) → f % 2 ≡ parity → f < frames → half_fits (Frame f) parity frames ≡ true
+frame-fits : (f parity frames : ℕ) → f % 2 ≡ parity → f < frames → half_fits (Some f) parity frames ≡ true
 unfolding half_fits
 frame-fits f parity frames e l = both_is _ _ (eq-eqb (f % 2) parity e) (lt-ltb f frames l)
 
@@ -48,8 +41,8 @@ stored-fit k c bytes f n d w l m h =
       long = w.long;
       again = w.again;
       index = h;
-      even = cond-by (λ (x : Cached). half_fits x 0 (frames_of c.info) ≡ true) (eqb (f % 2) 0) (Frame f) c.even (λ e. frame-fits f 0 _ (eqb-true (f % 2) 0 e) l) (λ e. w.even);
-      odd = cond-by (λ (x : Cached). half_fits x 1 (frames_of c.info) ≡ true) (eqb (f % 2) 0) c.odd (Frame f) (λ e. w.odd) (λ e. frame-fits f 1 _ (one (eqb-false (f % 2) 0 e)) l);
+      even = cond-by (λ (x : Option ℕ). half_fits x 0 (frames_of c.info) ≡ true) (eqb (f % 2) 0) (Some f) c.even (λ e. frame-fits f 0 _ (eqb-true (f % 2) 0 e) l) (λ e. w.even);
+      odd = cond-by (λ (x : Option ℕ). half_fits x 1 (frames_of c.info) ≡ true) (eqb (f % 2) 0) c.odd (Some f) (λ e. w.odd) (λ e. frame-fits f 1 _ (one (eqb-false (f % 2) 0 e)) l);
       next = m;
     }
   where
@@ -68,7 +61,7 @@ variant-stored : (c : StreamCache) (f n : ℕ) (d : State) → (stored_as c f n 
 unfolding stored_as
 variant-stored c f n d = refl
 
-none : (parity frames : ℕ) → half_fits Nothing parity frames ≡ true
+none : (parity frames : ℕ) → half_fits None parity frames ≡ true
 unfolding half_fits
 none parity frames = refl
 
@@ -86,7 +79,7 @@ module _ (d : List ℕ) (k : Variant) (i : Info) (bytes size : ℕ) where
   pub record Fits (s : Stock) : Type 0 where
     pub fit : Fit k s.cache bytes
     pub info : s.cache.info ≡ i
-    pub held : s.cache.variant ≡ Is k
+    pub held : s.cache.variant ≡ Some k
     pub long : length s.samples ≡ size
 
   below : {x : Info} {f : ℕ} → x ≡ i → f < frames_of i → f < frames_of x
@@ -138,9 +131,9 @@ module _ (d : List ℕ) (k : Variant) (i : Info) (bytes size : ℕ) where
         cond-by (λ (g : Given Stock). Fits g.left) (blends i p frac at) _ _
         (λ m. read-fit (cached_read d k i s at).left (read-fit s w at l) (at + 1) (mixes-next i p frac at m)) (λ m. read-fit s w at l)
 
-    pub played-fit : (p : Play) (phase : ℕ) (active : Bool) (s : Stock) → Fits s → (plan : Plan) → Asks i.sample_count plan → Fits (played_by (cached_read d k i) i p phase active s plan).stream
-    played-fit p phase active s w Stop a = w
-    played-fit p phase active s w (Sample at from) a = heard-fit p (fraction phase) s w at a
+    pub played-fit : (p : Play) (phase : ℕ) (active : Bool) (s : Stock) → Fits s → (plan : Option (ℕ × ℕ)) → Asks i.sample_count plan → Fits (played_by (cached_read d k i) i p phase active s plan).stream
+    played-fit p phase active s w None a = w
+    played-fit p phase active s w (Some (at, from)) a = heard-fit p (fraction phase) s w at a
 
 -- ---- the tick
 pub record TickKeeps (ram : List ℕ) (p : Play) (s : Stock) (t : StreamTick Stock) : Type 0 where
@@ -156,7 +149,7 @@ module _ (ram : List ℕ) (p : Play) (phase : ℕ) (active : Bool) where
       let r = accepted-ready ram s.cache p.start p.end w in
       let i = s.cache.info in
       let f = played-fit file w.variant i (p.end - p.start) (length s₀.samples) (r.plays w.variant w.held) p phase active s (record { fit = w.fit; info = refl; held = w.held; long = e }) (plan_of i p phase) (plan-asks i p phase r.again).it in
-      subst (λ (h : Held). TickKeeps ram p s₀ (tick_of p phase active (held_found file s h))) (sym w.held)
+      subst (λ (h : Option Variant). TickKeeps ram p s₀ (tick_of p phase active (held_found file s h))) (sym w.held)
       (record { accepted = as-accepted _ p.start p.end (length ram) (record { variant = w.variant; held = f.held; range = w.range; fit = f.fit }); long = f.long })
 
   pub tick-keeps : (s : Stock) → accepts_cache s.cache p.start p.end (length ram) ≡ true → TickKeeps ram p s (cached_tick ram p phase active s)
@@ -165,9 +158,9 @@ module _ (ram : List ℕ) (p : Play) (phase : ℕ) (active : Bool) where
       by : (f : FoundFile Stock) → cached_found ram p s ≡ f → TickKeeps ram p s (tick_of p phase active f) → TickKeeps ram p s (cached_tick ram p phase active s)
       by f e = subst (TickKeeps ram p s) (tick-by ram p s phase active f e)
 
-      fresh : (o : Opened) → opened_in ram p.wants_v3 p.start p.end p.loop_addr ≡ o → TickKeeps ram p s (tick_of p phase active (fresh_found file s.samples o))
-      fresh NoFile e = record { accepted = accepts-free emptied p.start p.end (length ram) refl; long = length-replicate (length s.samples) (pos 0) }
-      fresh (File k i) e = from-accepted s (stock (filled_with k i) s.samples) refl (opened-accepted ram p.wants_v3 p.start p.end p.loop_addr k i e)
+      fresh : (o : Option (Variant × Info)) → opened_in ram p.wants_v3 p.start p.end p.loop_addr ≡ o → TickKeeps ram p s (tick_of p phase active (fresh_found file s.samples o))
+      fresh None e = record { accepted = accepts-free emptied p.start p.end (length ram) refl; long = length-replicate (length s.samples) (pos 0) }
+      fresh (Some (k, i)) e = from-accepted s (stock (filled_with k i) s.samples) refl (opened-accepted ram p.wants_v3 p.start p.end p.loop_addr k i e)
 
       go : eqb (length s.samples) 128 ≡ true → (b : Bool) → s.cache.valid ≡ b → TickKeeps ram p s (cached_tick ram p phase active s)
       go r true v = by (held_found file s s.cache.variant) (found-held ram p s r v a) (from-accepted s s refl (accepted-as s.cache p.start p.end (length ram) a v))

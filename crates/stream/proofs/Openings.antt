@@ -1,47 +1,28 @@
 -- What a voice finds: a file that is refused is no file; one that is taken has an accepted header, and its cache is accepted. Assumes nothing.
-use Rattle.std.proofs.Common.{◌≡◌, ℕ, ◌+◌, ◌-◌, ◌*◌, ◌/◌, ◌%◌, ◌^◌, ◌<◌, ◌≤◌, Bool, true, false, cond, not, eqb, ltb, leb, List, [], ◌∷◌, length, get_or, sym, refl, ap, ◌∙◌, subst, mul-le-mul, mul-one, mul-div_cancel, arith, w64, Fits, ltb-true, lt-ltb, eq-eqb, eqb-true, leb-true}
+use Rattle.std.specs.Prelude.{Option, Some, None, Result, Ok, Err}
+use Rattle.std.proofs.Common.{◌≡◌, ℕ, ◌+◌, ◌-◌, ◌*◌, ◌/◌, ◌%◌, ◌^◌, ◌<◌, ◌≤◌, Bool, true, false, cond, not, eqb, ltb, leb, List, length, get_or, sym, refl, ap, ◌∙◌, subst, mul-le-mul, mul-one, mul-div_cancel, arith, w64, Fits, ltb-true, lt-ltb, eq-eqb, eqb-true, leb-true}
 use native.Mathlib.Nat.{mul-mod_left}
-use types.Run.{OneOf}
-use denote.Enum.Declared.{tag_of}
 use Rattle.num.specs.Lists.{part}
 use Rattle.num.proofs.Choice.{cond-by, never}
 use Rattle.adpcm.specs.declared.Variant.{Variant}
 use Rattle.sqv4.specs.declared.Header.{Header}
-use Rattle.sqv4.specs.declared.Inspected.{Inspected}
-use Rattle.sqv4.specs.declared.Inspected.TheVariants.{Accepted, TruncatedHeader, InvalidMagic, UnsupportedVersion, InvalidVariant, InvalidChannels, InvalidReservedByte, ZeroSampleRate, InvalidFileLength, InvalidStepIndex, NonZeroPadding}
 use Rattle.sqv4.specs.Files.{inspected}
-use Rattle.sqv4.specs.contracts.Inspected.{the_type}
-use Rattle.sqv4.proofs.Refused.{zero-not}
 use Rattle.sqv4.proofs.Accepted.{Told, accepted-told, accepted-says, says-fills}
-use Rattle.stream.specs.declared.Opened.{Opened}
-use Rattle.stream.specs.declared.Opened.TheVariants.{NoFile, File}
 use Rattle.stream.specs.declared.Info.{Info}
 use Rattle.stream.specs.File.{Source, source_of, info_of, looped, is_wanted, opened_as, opened_from, opened_in}
 use Rattle.stream.specs.Cache.{filled_with}
 use Rattle.stream.specs.Accepted.{both, loop_fits, half_fits, Fit}
 use Rattle.stream.proofs.Fragments.{samples-range}
 use Rattle.stream.proofs.Counts.{both_true, both_is}
+use Rattle.sqv4.specs.declared.InspectError.{InspectError}
 use Rattle.stream.proofs.Accepts.{AcceptedAs, long-part}
-
-pub refused_none : (wants : Bool) (start again : ℕ) (x : Inspected) → OneOf (1 ∷ 2 ∷ 3 ∷ 4 ∷ 5 ∷ 6 ∷ 7 ∷ 8 ∷ 9 ∷ 10 ∷ []) (tag_of the_type x) → NoFile ≡ opened_as wants start again x
-refused_none wants start again (Accepted h) t = absurd (zero-not t)
-refused_none wants start again TruncatedHeader t = refl
-refused_none wants start again InvalidMagic t = refl
-refused_none wants start again (UnsupportedVersion x) t = refl
-refused_none wants start again (InvalidVariant x) t = refl
-refused_none wants start again (InvalidChannels x) t = refl
-refused_none wants start again (InvalidReservedByte x) t = refl
-refused_none wants start again ZeroSampleRate t = refl
-refused_none wants start again (InvalidFileLength e a) t = refl
-refused_none wants start again (InvalidStepIndex x) t = refl
-refused_none wants start again NonZeroPadding t = refl
 
 -- the first sample of a fragment is a number of 64 bits
 pub first_fits : (f per n : ℕ) → f < n → n < 2 ^ 32 → per ≤ 64 → Fits w64 (f * per)
 first_fits f per n h l m = record { fits = omega (arith, mul-le-mul {n₁ = f} {m₁ = per} {n₂ = 2 ^ 32} {m₂ = 64} (omega arith) m) }
 
 -- what the loop address is looked at with
-pub header-fits : (d : List ℕ) (h : Header) → ((i : ℕ) → get_or d i 0 < 256) → inspected d ≡ Accepted h → (16 ≤ length d) × (0 < h.frame_size) × (h.frame_count < 2 ^ 32) × (h.frame_samples ≤ 64)
+pub header-fits : (d : List ℕ) (h : Header) → ((i : ℕ) → get_or d i 0 < 256) → inspected d ≡ Ok h → (16 ≤ length d) × (0 < h.frame_size) × (h.frame_count < 2 ^ 32) × (h.frame_samples ≤ 64)
 header-fits d h bytes e =
     let f = says-fills d h (accepted-says d h bytes e) in
     (omega (arith, f.long), omega (arith, f.size.0), f.count, f.per.1)
@@ -49,18 +30,18 @@ header-fits d h bytes e =
 -- ---- a file that is taken
 pub record OpenedAs (d : List ℕ) (wants : Bool) (k : Variant) (i : Info) : Type 0 where
   pub header : Header
-  pub found : inspected d ≡ Accepted header
+  pub found : inspected d ≡ Ok header
   pub wanted : is_wanted wants header.channels header.version ≡ true
   pub again : ℕ
   pub variant : k ≡ header.variant
   pub numbers : i ≡ info_of header again
   pub first : 0 < header.frame_samples → loop_fits again header.frame_samples header.frame_count ≡ true
 
-abbrev Opens : List ℕ → Bool → Opened → Type 0
-Opens d wants NoFile = Unit {0}
-Opens d wants (File k i) = OpenedAs d wants k i
+abbrev Opens : List ℕ → Bool → Option (Variant × Info) → Type 0
+Opens d wants None = Unit {0}
+Opens d wants (Some (k, i)) = OpenedAs d wants k i
 
-record Openeds (d : List ℕ) (wants : Bool) (x : Opened) : Type 0 where
+record Openeds (d : List ℕ) (wants : Bool) (x : Option (Variant × Info)) : Type 0 where
   pub it : Opens d wants x
 
 zero-loop : (per n : ℕ) → loop_fits 0 per n ≡ true
@@ -73,7 +54,7 @@ frame-loop f per n h p =
     cond-by (λ (b : Bool). b ≡ true) (eqb (f * per) 0) true (both (eqb (f * per % per) 0) (ltb (f * per / per) n)) (λ e. refl)
     (λ e. both_is _ _ (eq-eqb (f * per % per) 0 (mul-mod_left f per)) (lt-ltb (f * per / per) n (rw (mul-div_cancel f p) h)))
 
-module _ (d : List ℕ) (wants : Bool) (start again : ℕ) (h : Header) (e : inspected d ≡ Accepted h) (w : is_wanted wants h.channels h.version ≡ true) where
+module _ (d : List ℕ) (wants : Bool) (start again : ℕ) (h : Header) (e : inspected d ≡ Ok h) (w : is_wanted wants h.channels h.version ≡ true) where
   looped-as : Openeds d wants (looped start again h)
   looped-as =
       let off = again - (start + 16) in
@@ -87,30 +68,21 @@ module _ (d : List ℕ) (wants : Bool) (start again : ℕ) (h : Header) (e : ins
       (λ z. record { it = tt }))
       (λ b. record { it = tt }))
 
-taken_as : (d : List ℕ) (wants : Bool) (start again : ℕ) (x : Inspected) → inspected d ≡ x → Openeds d wants (opened_as wants start again x)
-taken_as d wants start again (Accepted h) e =
-    cond-by (Openeds d wants) (is_wanted wants h.channels h.version) (looped start again h) NoFile (λ w. looped-as d wants start again h e w) (λ w. record { it = tt })
-taken_as d wants start again TruncatedHeader e = record { it = tt }
-taken_as d wants start again InvalidMagic e = record { it = tt }
-taken_as d wants start again (UnsupportedVersion x) e = record { it = tt }
-taken_as d wants start again (InvalidVariant x) e = record { it = tt }
-taken_as d wants start again (InvalidChannels x) e = record { it = tt }
-taken_as d wants start again (InvalidReservedByte x) e = record { it = tt }
-taken_as d wants start again ZeroSampleRate e = record { it = tt }
-taken_as d wants start again (InvalidFileLength l a) e = record { it = tt }
-taken_as d wants start again (InvalidStepIndex x) e = record { it = tt }
-taken_as d wants start again NonZeroPadding e = record { it = tt }
+taken_as : (d : List ℕ) (wants : Bool) (start again : ℕ) (x : Result Header InspectError) → inspected d ≡ x → Openeds d wants (opened_as wants start again x)
+taken_as d wants start again (Ok h) e =
+    cond-by (Openeds d wants) (is_wanted wants h.channels h.version) (looped start again h) None (λ w. looped-as d wants start again h e w) (λ w. record { it = tt })
+taken_as d wants start again (Err x) e = record { it = tt }
 
-there-true : (b : Bool) (x : Opened) (k : Variant) (i : Info) → cond b x NoFile ≡ File k i → (b ≡ true) × (x ≡ File k i)
+there-true : (b : Bool) (x : Option (Variant × Info)) (k : Variant) (i : Info) → cond b x None ≡ Some (k, i) → (b ≡ true) × (x ≡ Some (k, i))
 there-true true x k i e = (refl, e)
 there-true false x k i e = absurd (let z : ◌≡◌ {A = ℕ} 0 1 = cc in omega arith)
 
-pub opened-as : (src : Source) (wants : Bool) (start again : ℕ) (k : Variant) (i : Info) → opened_from src wants start again ≡ File k i → OpenedAs src.bytes wants k i
+pub opened-as : (src : Source) (wants : Bool) (start again : ℕ) (k : Variant) (i : Info) → opened_from src wants start again ≡ Some (k, i) → OpenedAs src.bytes wants k i
 unfolding opened_from
 opened-as src wants start again k i e =
-    (subst (λ (x : Opened). Openeds src.bytes wants x) (there-true src.there (opened_as wants start again (inspected src.bytes)) k i e).1 (taken_as src.bytes wants start again (inspected src.bytes) refl)).it
+    (subst (λ (x : Option (Variant × Info)). Openeds src.bytes wants x) (there-true src.there (opened_as wants start again (inspected src.bytes)) k i e).1 (taken_as src.bytes wants start again (inspected src.bytes) refl)).it
 
-pub opened-range : (ram : List ℕ) (wants : Bool) (start end again : ℕ) (k : Variant) (i : Info) → opened_in ram wants start end again ≡ File k i → (start < end) × (end ≤ length ram)
+pub opened-range : (ram : List ℕ) (wants : Bool) (start end again : ℕ) (k : Variant) (i : Info) → opened_in ram wants start end again ≡ Some (k, i) → (start < end) × (end ≤ length ram)
 unfolding opened_from source_of
 opened-range ram wants start end again k i e =
     let b = both_true (ltb start end) (leb end (length ram)) (there-true (cond (ltb start end) (leb end (length ram)) false) (opened_as wants start again (inspected (part ram start (end - start)))) k i e).0 in
@@ -150,7 +122,7 @@ module _ (d : List ℕ) (wants : Bool) (k : Variant) (i : Info) (o : OpenedAs d 
         next = omega arith;
       }))
 
-pub opened-accepted : (ram : List ℕ) (wants : Bool) (start end again : ℕ) (k : Variant) (i : Info) → opened_in ram wants start end again ≡ File k i → AcceptedAs (filled_with k i) start end (length ram)
+pub opened-accepted : (ram : List ℕ) (wants : Bool) (start end again : ℕ) (k : Variant) (i : Info) → opened_in ram wants start end again ≡ Some (k, i) → AcceptedAs (filled_with k i) start end (length ram)
 unfolding source_of
 opened-accepted ram wants start end again k i e =
     let r = opened-range ram wants start end again k i e in

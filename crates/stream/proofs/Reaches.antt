@@ -1,8 +1,8 @@
 -- How far a cache serves. Assumes nothing.
-use Rattle.std.proofs.Common.{◌≡◌, ℕ, ◌+◌, ◌-◌, ◌*◌, ◌^◌, ◌<◌, ◌≤◌, min, Bool, true, false, cond, ltb, refl, ap, ◌∙◌, arith, le-ltb, lt-ltb}
+use Rattle.std.proofs.Common.{is_some, ◌≡◌, ℕ, ◌+◌, ◌-◌, ◌*◌, ◌^◌, ◌<◌, ◌≤◌, min, Bool, true, false, cond, ltb, refl, ap, ◌∙◌, arith, le-ltb, lt-ltb}
 use Rattle.sqv4.specs.Files.{frame_samples_of}
 use Rattle.stream.specs.declared.StreamCache.{StreamCache}
-use Rattle.stream.specs.Window.{is_some, holds_frame, reach_of}
+use Rattle.stream.specs.Window.{holds_frame, reach_of}
 use Rattle.stream.proofs.Founds.{choose, refuse}
 
 module _ (c : StreamCache) (frame : ℕ) where

@@ -1,4 +1,5 @@
 -- The tick with a coherent cache gives what the plain tick gives, and the cache stays coherent. Assumes nothing.
+use Rattle.std.specs.Prelude.{Option, Some, None}
 use Rattle.std.proofs.Common.{◌≡◌, ℕ, ◌+◌, ◌-◌, ◌*◌, ◌/◌, ◌%◌, ◌<◌, Bool, true, false, cond, eqb, List, length, get_or, ℤ, pos, sym, refl, ap, ◌∙◌, subst, ap₂, arith, eq-eqb}
 use lib.ListN.{length-replicate}
 use Rattle.num.specs.Lists.{part}
@@ -13,12 +14,6 @@ use Rattle.tone.specs.Phase.{fraction}
 use Rattle.tone.specs.Taps.{raised_sample, blend_samples}
 use Rattle.stream.specs.declared.Info.{Info}
 use Rattle.stream.specs.declared.Play.{Play}
-use Rattle.stream.specs.declared.Plan.{Plan}
-use Rattle.stream.specs.declared.Plan.TheVariants.{Stop, Sample}
-use Rattle.stream.specs.declared.Held.{Held}
-use Rattle.stream.specs.declared.Held.TheVariants.{Is}
-use Rattle.stream.specs.declared.Opened.{Opened}
-use Rattle.stream.specs.declared.Opened.TheVariants.{NoFile, File}
 use Rattle.stream.specs.File.{source_of, info_of, opened_in}
 use Rattle.stream.specs.Cache.{Stock, stock, emptied, filled_with, Plays, frames_of, bytes_at, fragment_samples, fragment_state, ensure_in}
 use Rattle.stream.specs.Accepted.{accepts_cache}
@@ -126,33 +121,33 @@ module _ (d : List ℕ) (k : Variant) (i : Info) (plays : Plays d k i) where
     pub holds : HoldsFile d k i t.stream
     pub kept : KeptIn s t.stream
 
-  same-played : (p : Play) (phase : ℕ) (active : Bool) (s : Stock) → HoldsFile d k i s → (plan : Plan) → Asks i.sample_count plan → SameTick s (played_by (whole_read (fragments d k i)) i p phase active tt plan) (played_by (cached_read d k i) i p phase active s plan)
-  same-played p phase active s ok Stop a = record { phase = refl; active = refl; value = refl; holds = ok; kept = record { valid = refl; variant = refl; info = refl; long = refl } }
-  same-played p phase active s ok (Sample at from) a =
+  same-played : (p : Play) (phase : ℕ) (active : Bool) (s : Stock) → HoldsFile d k i s → (plan : Option (ℕ × ℕ)) → Asks i.sample_count plan → SameTick s (played_by (whole_read (fragments d k i)) i p phase active tt plan) (played_by (cached_read d k i) i p phase active s plan)
+  same-played p phase active s ok None a = record { phase = refl; active = refl; value = refl; holds = ok; kept = record { valid = refl; variant = refl; info = refl; long = refl } }
+  same-played p phase active s ok (Some (at, from)) a =
       let h = same-heard p (fraction phase) s ok at a in
       record { phase = refl; active = refl; value = h.value; holds = h.holds; kept = h.kept }
 
 -- ---- the law
-pub record TickSame (found : Opened) (d : List ℕ) (u : StreamTick (Unit {0})) (t : StreamTick Stock) : Type 0 where
+pub record TickSame (found : Option (Variant × Info)) (d : List ℕ) (u : StreamTick (Unit {0})) (t : StreamTick Stock) : Type 0 where
   pub phase : t.phase ≡ u.phase
   pub active : t.active ≡ u.active
   pub value : t.value ≡ u.value
   pub coherent : Coherent found d t.stream
 
-pub emptied-coherent : (found : Opened) (d : List ℕ) (samples : List ℤ) → length samples ≡ 128 → Coherent found d (stock emptied samples)
+pub emptied-coherent : (found : Option (Variant × Info)) (d : List ℕ) (samples : List ℤ) → length samples ≡ 128 → Coherent found d (stock emptied samples)
 emptied-coherent found d samples e = record { room = e; valid = λ v. never (sym v) }
 
 module _ (ram : List ℕ) (p : Play) (phase : ℕ) (active : Bool) where
-  abbrev found : Opened
+  abbrev found : Option (Variant × Info)
   found = opened_in ram p.wants_v3 p.start p.end p.loop_addr
 
   abbrev file : List ℕ
   file = part ram p.start (p.end - p.start)
 
-  abbrev plainly : Opened → StreamTick (Unit {0})
+  abbrev plainly : Option (Variant × Info) → StreamTick (Unit {0})
   plainly o = tick_of p phase active (plain_found (whole_in file (inspected file)) o)
 
-  from-valid : (k : Variant) (s : Stock) → s.cache.variant ≡ Is k → found ≡ File k s.cache.info → HoldsFile file k s.cache.info s → TickSame found file (plainly (File k s.cache.info)) (tick_of p phase active (held_found file s (Is k)))
+  from-valid : (k : Variant) (s : Stock) → s.cache.variant ≡ Some k → found ≡ Some (k, s.cache.info) → HoldsFile file k s.cache.info s → TickSame found file (plainly (Some (k, s.cache.info))) (tick_of p phase active (held_found file s (Some k)))
   unfolding source_of
   from-valid k s q e ok =
       let i = s.cache.info in
@@ -160,7 +155,7 @@ module _ (ram : List ℕ) (p : Play) (phase : ℕ) (active : Bool) where
       let o = opened-as (source_of ram p.start p.end) p.wants_v3 p.start p.loop_addr k i e in
       let w = whole_is file p.wants_v3 k i o in
       let t = same-played file k i (r.plays k refl) p phase active s ok (plan_of i p phase) (plan-asks i p phase r.again).it in
-      subst (λ (l : List ℤ). TickSame found file (tick_of p phase active (plain_found l (File k i))) (tick_of p phase active (held_found file s (Is k)))) (sym w)
+      subst (λ (l : List ℤ). TickSame found file (tick_of p phase active (plain_found l (Some (k, i)))) (tick_of p phase active (held_found file s (Some k)))) (sym w)
       (record {
         phase = t.phase;
         active = t.active;
@@ -170,7 +165,7 @@ module _ (ram : List ℕ) (p : Play) (phase : ℕ) (active : Bool) where
           valid = λ v. record {
             variant = k;
             held = t.kept.variant ∙ q;
-            same = e ∙ ap (File k) (sym t.kept.info);
+            same = e ∙ ap (λ (x : Info). Some (k, x)) (sym t.kept.info);
             holds = subst (λ (x : Info). HoldsFile file k x (played_by (cached_read file k i) i p phase active s (plan_of i p phase)).stream) (sym t.kept.info) t.holds;
           };
         };
@@ -187,13 +182,13 @@ module _ (ram : List ℕ) (p : Play) (phase : ℕ) (active : Bool) where
       held : s.cache.valid ≡ true → Valid found file s → TickSame found file (plainly found) (cached_tick ram p phase active s)
       held v w =
           subst (λ (t : StreamTick Stock). TickSame found file (plainly found) t) (tick-by ram p s phase active (held_found file s s.cache.variant) (found-held ram p s room v a))
-          (subst (λ (o : Opened). TickSame found file (plainly o) (tick_of p phase active (held_found file s s.cache.variant))) (sym w.same)
-          (subst (λ (h : Held). TickSame found file (plainly (File w.variant s.cache.info)) (tick_of p phase active (held_found file s h))) (sym w.held)
+          (subst (λ (o : Option (Variant × Info)). TickSame found file (plainly o) (tick_of p phase active (held_found file s s.cache.variant))) (sym w.same)
+          (subst (λ (h : Option Variant). TickSame found file (plainly (Some (w.variant, s.cache.info))) (tick_of p phase active (held_found file s h))) (sym w.held)
           (from-valid w.variant s w.held w.same w.holds)))
 
-      fresh : s.cache.valid ≡ false → (o : Opened) → found ≡ o → TickSame found file (plainly o) (tick_of p phase active (fresh_found file s.samples o))
-      fresh v NoFile e = record { phase = refl; active = refl; value = refl; coherent = emptied-coherent found file _ (length-replicate (length s.samples) (pos 0) ∙ ok.room) }
-      fresh v (File k i) e =
+      fresh : s.cache.valid ≡ false → (o : Option (Variant × Info)) → found ≡ o → TickSame found file (plainly o) (tick_of p phase active (fresh_found file s.samples o))
+      fresh v None e = record { phase = refl; active = refl; value = refl; coherent = emptied-coherent found file _ (length-replicate (length s.samples) (pos 0) ∙ ok.room) }
+      fresh v (Some (k, i)) e =
           from-valid k (stock (filled_with k i) s.samples) refl e
           (nothing-held (eqb i.version 3) (fragment_samples file k i) (fragment_state file k i) (stock (filled_with k i) s.samples) ok.room refl refl refl refl)
 

@@ -1,5 +1,6 @@
 -- A tick that the cache serves is the cached tick: it moves the phase alone. Assumes nothing.
-use Rattle.std.proofs.Common.{◌≡◌, ℕ, ◌+◌, ◌-◌, ◌*◌, ◌/◌, ◌%◌, ◌^◌, ◌<◌, ◌≤◌, Bool, true, false, cond, eqb, ltb, List, length, get_or, drop, ℤ, pos, ◌+ℤ◌, ◌*ℤ◌, sym, refl, ap, ◌∙◌, subst, mod-lt, mul-le-mul, arith, length-drop, length-take, get_or-drop, get_or-take, ltb-true, le-ltb, lt-ltb, eq-eqb, eqb-true}
+use Rattle.std.specs.Prelude.{Some}
+use Rattle.std.proofs.Common.{is_some, ◌≡◌, ℕ, ◌+◌, ◌-◌, ◌*◌, ◌/◌, ◌%◌, ◌^◌, ◌<◌, ◌≤◌, Bool, true, false, cond, eqb, ltb, List, length, get_or, drop, ℤ, pos, ◌+ℤ◌, ◌*ℤ◌, sym, refl, ap, ◌∙◌, subst, mod-lt, mul-le-mul, arith, length-drop, length-take, get_or-drop, get_or-take, ltb-true, le-ltb, lt-ltb, eq-eqb, eqb-true}
 use native.Mathlib.Decide.{dec_le}
 use Rattle.num.specs.Lists.{part}
 use Rattle.num.proofs.Integers.{z-eq, z-add, up-mul, down-mul}
@@ -8,14 +9,13 @@ use Rattle.tone.specs.Phase.{whole, fraction, stepped}
 use Rattle.tone.specs.Taps.{raised_sample, blend_samples}
 use Rattle.stream.specs.declared.Info.{Info}
 use Rattle.stream.specs.declared.Play.{Play}
-use Rattle.stream.specs.declared.Plan.TheVariants.{Sample}
 use Rattle.stream.specs.declared.StreamCache.{StreamCache}
 use Rattle.stream.specs.declared.Window.{Window}
 use Rattle.stream.specs.Cache.{Stock, stock}
 use Rattle.stream.specs.Accepted.{accepts_cache}
 use Rattle.stream.specs.Tick.{Given, StreamTick, plan_of, heard_at}
 use Rattle.stream.specs.Cached.{tap_at, cached_read, held_found, cached_tick}
-use Rattle.stream.specs.Window.{is_some, holds_frame, reach_of, window_of, offset_in, serves_at, place_in, tap_in, value_in}
+use Rattle.stream.specs.Window.{holds_frame, reach_of, window_of, offset_in, serves_at, place_in, tap_in, value_in}
 use Rattle.stream.proofs.Fragments.{samples-range}
 use Rattle.stream.proofs.Counts.{by_per}
 use Rattle.stream.proofs.Accepts.{AcceptedAs, accepted-as}
@@ -214,7 +214,7 @@ module _ (c : StreamCache) (from : ℕ) (all : List ℤ) (base : ℕ) (size : le
             (choose p.interpolate _ _ i ∙ refuse (eqb (fraction phase) 0) _ _ q ∙ lt-ltb (at + 1) info.sample_count seen.there)
             (record { left = stock c own; sample = b }) (read_held (at + 1) after.0) value (blended i)
 
-    plan-is : plan_of info p phase ≡ Sample at phase
+    plan-is : plan_of info p phase ≡ Some (at, phase)
     unfolding plan_of
     plan-is = choose (ltb at info.sample_count) _ _ (lt-ltb at info.sample_count (omega (arith, seen.there)))
 

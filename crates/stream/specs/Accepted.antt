@@ -1,13 +1,9 @@
 -- The states in which a chip accepts a voice's cache. The predictor is an i16 by its type; that the voice is a stream is
 -- said where the voice is known.
-use Rattle.std.specs.Prelude.{◌≡◌, ℕ, ◌+◌, ◌-◌, ◌*◌, ◌/◌, ◌%◌, ◌≤◌, Bool, true, false, cond, ◌==◌, nat_le, nat_lt}
+use Rattle.std.specs.Prelude.{◌≡◌, ℕ, ◌+◌, ◌-◌, ◌*◌, ◌/◌, ◌%◌, ◌≤◌, Bool, true, false, cond, ◌==◌, nat_le, nat_lt, Option, Some, None}
 use Rattle.adpcm.specs.declared.Variant.{Variant}
 use Rattle.sqv4.specs.Files.{frame_samples_of, frame_size_of}
 use Rattle.stream.specs.declared.Info.{Info}
-use Rattle.stream.specs.declared.Held.{Held}
-use Rattle.stream.specs.declared.Held.TheVariants as held
-use Rattle.stream.specs.declared.Cached.{Cached}
-use Rattle.stream.specs.declared.Cached.TheVariants.{Nothing, Frame}
 use Rattle.stream.specs.declared.StreamCache.{StreamCache}
 use Rattle.stream.specs.Cache.{frames_of}
 
@@ -25,9 +21,9 @@ unfoldable pub loop_fits : ℕ → ℕ → ℕ → Bool
 loop_fits again per frames = cond (again == 0) true (both (again % per == 0) (nat_lt (again / per) frames))
 
 -- a cached fragment stands in the half of its parity and is below the file's fragment count
-unfoldable pub half_fits : Cached → ℕ → ℕ → Bool
-half_fits Nothing parity frames = true
-half_fits (Frame f) parity frames = both (f % 2 == parity) (nat_lt f frames)
+unfoldable pub half_fits : Option ℕ → ℕ → ℕ → Bool
+half_fits None parity frames = true
+half_fits (Some f) parity frames = both (f % 2 == parity) (nat_lt f frames)
 
 -- a cache of a file of that many bytes, of a variant
 unfoldable pub file_fits : Variant → StreamCache → ℕ → Bool
@@ -37,9 +33,9 @@ file_fits k c bytes =
     (both (loop_fits i.loop_sample i.frame_samples (frames_of i)) (both (nat_le c.decoder.index 88)
     (both (half_fits c.even 0 (frames_of i)) (both (half_fits c.odd 1 (frames_of i)) (nat_le c.next_frame (frames_of i)))))))
 
-abbrev pub held_fits : Held → StreamCache → ℕ → Bool
-held_fits held.Nothing c bytes = false
-held_fits (held.Is k) c bytes = file_fits k c bytes
+abbrev pub held_fits : Option Variant → StreamCache → ℕ → Bool
+held_fits None c bytes = false
+held_fits (Some k) c bytes = file_fits k c bytes
 
 -- a cache that is not marked valid is accepted; `length` is the RAM's
 unfoldable pub accepts_cache : StreamCache → ℕ → ℕ → ℕ → Bool

@@ -1,5 +1,5 @@
 -- The cache of a stream voice's decoded fragments.
-use Rattle.std.specs.Prelude.{◌≡◌, ℕ, zero, suc, ◌+◌, ◌-◌, ◌*◌, ◌%◌, ◌≤◌, min, Bool, true, false, cond, List, length, ℤ, ◌==◌, nat_lt}
+use Rattle.std.specs.Prelude.{◌≡◌, ℕ, zero, suc, ◌+◌, ◌-◌, ◌*◌, ◌%◌, ◌≤◌, min, Bool, true, false, cond, List, length, ℤ, ◌==◌, nat_lt, Option, Some, None}
 use Rattle.std.proofs.lemmas.List.Edits.{sets}
 use Rattle.num.specs.Lists.{part}
 use Rattle.adpcm.specs.declared.Variant.{Variant}
@@ -7,10 +7,6 @@ use Rattle.adpcm.specs.declared.State.{State}
 use Rattle.sqv4.specs.Files.{frame_samples_of, frame_size_of, frame_count_of}
 use Rattle.sqv4.specs.Decoding.{samples_of, state_of, zero_state}
 use Rattle.stream.specs.declared.Info.{Info}
-use Rattle.stream.specs.declared.Held.TheVariants.{Is}
-use Rattle.stream.specs.declared.Held.TheVariants as held
-use Rattle.stream.specs.declared.Cached.{Cached}
-use Rattle.stream.specs.declared.Cached.TheVariants.{Nothing, Frame}
 use Rattle.stream.specs.declared.StreamCache.{StreamCache}
 
 -- a cache with the decoded samples that are lent beside it
@@ -26,23 +22,23 @@ abbrev pub no_info : Info
 no_info = record { version = 0; sample_count = 0; frame_samples = 0; frame_size = 0; loop_sample = 0 }
 
 abbrev pub emptied : StreamCache
-emptied = record { valid = false; variant = held.Nothing; info = no_info; even = Nothing; odd = Nothing; next_frame = 0; decoder = zero_state }
+emptied = record { valid = false; variant = None; info = no_info; even = None; odd = None; next_frame = 0; decoder = zero_state }
 
 -- the cache of a file that was just taken
 abbrev pub filled_with : Variant → Info → StreamCache
-filled_with k i = record { valid = true; variant = Is k; info = i; even = Nothing; odd = Nothing; next_frame = 0; decoder = zero_state }
+filled_with k i = record { valid = true; variant = Some k; info = i; even = None; odd = None; next_frame = 0; decoder = zero_state }
 
 -- the same file from its first fragment on
 abbrev pub rewound_from : StreamCache → StreamCache
-rewound_from c = record { valid = c.valid; variant = c.variant; info = c.info; even = Nothing; odd = Nothing; next_frame = 0; decoder = zero_state }
+rewound_from c = record { valid = c.valid; variant = c.variant; info = c.info; even = None; odd = None; next_frame = 0; decoder = zero_state }
 
 -- the fragment in the half of a parity
-abbrev pub cached_at : StreamCache → ℕ → Cached
+abbrev pub cached_at : StreamCache → ℕ → Option ℕ
 cached_at c parity = cond (parity == 0) c.even c.odd
 
-abbrev pub is_held : Cached → ℕ → Bool
-is_held Nothing f = false
-is_held (Frame g) f = g == f
+abbrev pub is_held : Option ℕ → ℕ → Bool
+is_held None f = false
+is_held (Some g) f = g == f
 
 -- fragment f in its half, and the decoder before fragment n in state s
 unfoldable pub stored_as : StreamCache → ℕ → ℕ → State → StreamCache
@@ -51,8 +47,8 @@ stored_as c f n s =
       valid = c.valid;
       variant = c.variant;
       info = c.info;
-      even = cond (f % 2 == 0) (Frame f) c.even;
-      odd = cond (f % 2 == 0) c.odd (Frame f);
+      even = cond (f % 2 == 0) (Some f) c.even;
+      odd = cond (f % 2 == 0) c.odd (Some f);
       next_frame = n;
       decoder = s;
     }

@@ -1,13 +1,9 @@
 -- A stream voice's tick with the cache.
-use Rattle.std.specs.Prelude.{ℕ, ◌+◌, ◌*◌, ◌/◌, ◌%◌, Bool, cond, List, length, replicate, ℤ, pos, ◌==◌, slice_index_or}
+use Rattle.std.specs.Prelude.{ℕ, ◌+◌, ◌*◌, ◌/◌, ◌%◌, Bool, cond, List, length, replicate, ℤ, pos, ◌==◌, slice_index_or, Option, Some, None}
 use Rattle.adpcm.specs.declared.Variant.{Variant}
 use Rattle.sqv4.specs.Files.{frame_samples_of}
 use Rattle.stream.specs.declared.Info.{Info}
 use Rattle.stream.specs.declared.Play.{Play}
-use Rattle.stream.specs.declared.Opened.{Opened}
-use Rattle.stream.specs.declared.Opened.TheVariants.{NoFile, File}
-use Rattle.stream.specs.declared.Held.{Held}
-use Rattle.stream.specs.declared.Held.TheVariants.{Nothing, Is}
 use Rattle.stream.specs.declared.Streamed.{Streamed}
 use Rattle.stream.specs.File.{source_of, opened_from}
 use Rattle.stream.specs.Cache.{Stock, stock, emptied, filled_with, ensure_in}
@@ -25,13 +21,13 @@ cached_read d k i s at =
     record { left = e; sample = tap_at i.version e.samples at }
 
 -- a cache without a variant is not heard
-abbrev pub held_found : List ℕ → Stock → Held → FoundFile Stock
-held_found d s Nothing = unheard s
-held_found d s (Is k) = present s.cache.info (cached_read d k s.cache.info) s
+abbrev pub held_found : List ℕ → Stock → Option Variant → FoundFile Stock
+held_found d s None = unheard s
+held_found d s (Some k) = present s.cache.info (cached_read d k s.cache.info) s
 
-abbrev pub fresh_found : List ℕ → List ℤ → Opened → FoundFile Stock
-fresh_found d samples NoFile = absent (stock emptied (replicate (length samples) (pos 0)))
-fresh_found d samples (File k i) = held_found d (stock (filled_with k i) samples) (Is k)
+abbrev pub fresh_found : List ℕ → List ℤ → Option (Variant × Info) → FoundFile Stock
+fresh_found d samples None = absent (stock emptied (replicate (length samples) (pos 0)))
+fresh_found d samples (Some (k, i)) = held_found d (stock (filled_with k i) samples) (Some k)
 
 -- a cache that is not accepted, or that has not its 128 samples, is not heard
 unfoldable pub cached_found : List ℕ → Play → Stock → FoundFile Stock

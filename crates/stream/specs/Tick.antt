@@ -1,17 +1,15 @@
 -- A stream voice's tick, over how a sample of the stream is read: with the cache (Cached), and without one (Plain).
-use Rattle.std.specs.Prelude.{ℕ, ◌+◌, Bool, false, cond, ℤ, pos, ◌==◌, nat_lt}
+use Rattle.std.specs.Prelude.{ℕ, ◌+◌, Bool, false, cond, ℤ, pos, ◌==◌, nat_lt, Option, Some, None}
 use Rattle.tone.specs.Phase.{whole, fraction, stepped, phase_of}
 use Rattle.tone.specs.Taps.{raised_sample, blend_samples}
 use Rattle.stream.specs.declared.Info.{Info}
 use Rattle.stream.specs.declared.Play.{Play}
-use Rattle.stream.specs.declared.Plan.{Plan}
-use Rattle.stream.specs.declared.Plan.TheVariants.{Stop, Sample}
 
 -- ---- what a tick asks for: past the last sample the loop's, or nothing
-unfoldable pub plan_of : Info → Play → ℕ → Plan
+unfoldable pub plan_of : Info → Play → ℕ → Option (ℕ × ℕ)
 plan_of i p phase =
-    cond (nat_lt (whole phase) i.sample_count) (Sample (whole phase) phase)
-    (cond (i.sample_count == 0) Stop (cond p.loops (Sample i.loop_sample (phase_of i.loop_sample)) Stop))
+    cond (nat_lt (whole phase) i.sample_count) (Some (whole phase, phase))
+    (cond (i.sample_count == 0) None (cond p.loops (Some (i.loop_sample, phase_of i.loop_sample)) None))
 
 -- whether the sample after it is blended in
 abbrev pub blends : Info → Play → ℕ → ℕ → Bool
@@ -46,9 +44,9 @@ module _ {S : Type 0} where
   abbrev pub ended : S → ℕ → StreamTick S
   ended s phase = record { stream = s; phase = phase; active = false; value = pos 0 }
 
-  abbrev pub played_by : (S → ℕ → Given S) → Info → Play → ℕ → Bool → S → Plan → StreamTick S
-  played_by read i p phase active s Stop = ended s phase
-  played_by read i p phase active s (Sample at from) =
+  abbrev pub played_by : (S → ℕ → Given S) → Info → Play → ℕ → Bool → S → Option (ℕ × ℕ) → StreamTick S
+  played_by read i p phase active s None = ended s phase
+  played_by read i p phase active s (Some (at, from)) =
       let h = heard_at read i p (fraction phase) s at in
       record { stream = h.left; phase = stepped from p.step; active = active; value = h.sample }
 

@@ -1,16 +1,10 @@
 -- What a cache serves without decoding: from a sample on, that sample's fragment and the next one, as far as they are there.
-use Rattle.std.specs.Prelude.{ℕ, ◌+◌, ◌-◌, ◌*◌, ◌/◌, ◌%◌, ◌^◌, min, Bool, true, false, cond, List, ℤ, pos, nat_lt, slice_index_or}
+use Rattle.std.specs.Prelude.{ℕ, ◌+◌, ◌-◌, ◌*◌, ◌/◌, ◌%◌, ◌^◌, min, Bool, cond, List, ℤ, pos, nat_lt, slice_index_or, is_some}
 use Rattle.sqv4.specs.Files.{frame_samples_of}
 use Rattle.tone.specs.Taps.{raised_sample, blend_samples}
-use Rattle.stream.specs.declared.Held.{Held}
-use Rattle.stream.specs.declared.Held.TheVariants.{Nothing, Is}
 use Rattle.stream.specs.declared.StreamCache.{StreamCache}
 use Rattle.stream.specs.declared.Window.{Window}
 use Rattle.stream.specs.Cache.{cached_at, is_held}
-
-abbrev pub is_some : Held → Bool
-is_some Nothing = false
-is_some (Is k) = true
 
 abbrev pub holds_frame : StreamCache → ℕ → Bool
 holds_frame c f = is_held (cached_at c (f % 2)) f

@@ -1,26 +1,10 @@
 // The states in which a chip accepts a voice's cache.
 ghost use Rattle.std.specs.Prelude.{◌≡◌, ◌+◌, ◌*◌, ◌<◌, ◌≤◌, ◌==◌};
-ghost use Rattle.sqv4.specs.Files.{frame_samples_of, frame_size_of};
 ghost use Rattle.stream.specs.Cache.{frames_of};
 ghost use Rattle.stream.specs.Accepted.{sizes_fit, loop_fits, half_fits, file_fits, accepts_cache};
 
-use crate::{Cached, Held, Info, StreamCache};
+use crate::{Info, StreamCache};
 use adpcm::Variant;
-
-pub(crate) fn frame_samples_of(version: u8) -> usize
-    ensures { (result ≡ frame_samples_of version) × (63 ≤ result) × (result ≤ 64) }
-{
-    if version == 3 { 63 } else { 64 }
-}
-
-fn frame_size_of(version: u8, variant: Variant) -> usize
-    ensures { result ≡ frame_size_of version variant }
-{
-    if version == 3 {
-        return variant.fragment_size();
-    }
-    variant.legacy_fragment_size()
-}
 
 fn sizes_fit(variant: Variant, info: Info) -> bool
     ensures { result ≡ sizes_fit variant info }
@@ -31,16 +15,16 @@ fn sizes_fit(variant: Variant, info: Info) -> bool
     if 3 < info.version {
         return false;
     }
-    if info.frame_samples != frame_samples_of(info.version) {
+    if info.frame_samples != sqv4::frame_samples(info.version) {
         return false;
     }
-    info.frame_size == frame_size_of(info.version, variant)
+    info.frame_size == sqv4::frame_size(info.version, variant)
 }
 
-fn is_half_fit(cached: Cached, parity: usize, frames: usize) -> bool
+fn is_half_fit(cached: Option<usize>, parity: usize, frames: usize) -> bool
     ensures { result ≡ half_fits cached parity frames }
 {
-    let Cached::Frame(f) = cached else {
+    let Some(f) = cached else {
         return true;
     };
     if f % 2 != parity {
@@ -81,12 +65,7 @@ fn frames_of(info: Info) -> usize
     requires { (63 ≤ info.frame_samples) × (info.frame_samples ≤ 64) }
     ensures { result ≡ frames_of info }
 {
-    let n = info.sample_count;
-    let per = info.frame_samples;
-    if n % per == 0 {
-        return n / per;
-    }
-    n / per + 1
+    info.sample_count.div_ceil(info.frame_samples)
 }
 
 impl StreamCache {
@@ -133,7 +112,7 @@ impl StreamCache {
             return false;
         }
         let held = self.variant;
-        let Held::Is(variant) = held else {
+        let Some(variant) = held else {
             return false;
         };
         self.is_fit(variant, end - start)

@@ -5,36 +5,20 @@ ghost use Rattle.sqv4.specs.Decoding.{zero_state};
 ghost use Rattle.stream.specs.Cache.{Plays, stock, emptied, filled_with, rewound_from, cached_at, is_held, stored_as, count_at, frames_of};
 ghost use Rattle.stream.specs.Cache.{fragment_samples, fragment_state, load_in, step_in, onward_in, ensure_in};
 
-use crate::{Cached, Held, Info, StreamCache};
+use crate::{Info, StreamCache};
 use adpcm::{State, Variant};
-
-fn start_state() -> State
-    ensures { result ≡ zero_state }
-{
-    State {
-        predictor: 0,
-        index: 0,
-    }
-}
 
 // Every decoded sample is 0, as in an empty cache.
 pub fn clear(samples: &mut [i16])
     ensures { samples.new ≡ replicate (length samples.old) (pos 0) }
 {
-    let mut i = 0;
-    while i < samples.len() {
-        samples[i] = 0;
-        i += 1;
-    }
+    samples.fill(0);
 }
 
-fn holds(cached: Cached, frame: usize) -> bool
+fn holds(cached: Option<usize>, frame: usize) -> bool
     ensures { result ≡ is_held cached frame }
 {
-    match cached {
-        Cached::Nothing => false,
-        Cached::Frame(f) => f == frame,
-    }
+    cached == Some(frame)
 }
 
 // The samples of a fragment.
@@ -90,7 +74,7 @@ impl StreamCache {
     {
         StreamCache {
             valid: false,
-            variant: Held::Nothing,
+            variant: None,
             info: Info {
                 version: 0,
                 sample_count: 0,
@@ -98,10 +82,10 @@ impl StreamCache {
                 frame_size: 0,
                 loop_sample: 0,
             },
-            even: Cached::Nothing,
-            odd: Cached::Nothing,
+            even: None,
+            odd: None,
             next_frame: 0,
-            decoder: start_state(),
+            decoder: State::default(),
         }
     }
 
@@ -110,12 +94,12 @@ impl StreamCache {
     {
         StreamCache {
             valid: true,
-            variant: Held::Is(variant),
+            variant: Some(variant),
             info,
-            even: Cached::Nothing,
-            odd: Cached::Nothing,
+            even: None,
+            odd: None,
             next_frame: 0,
-            decoder: start_state(),
+            decoder: State::default(),
         }
     }
 
@@ -135,45 +119,31 @@ impl StreamCache {
     fn stored(self, frame: usize, next_frame: usize, decoder: State) -> StreamCache
         ensures { result ≡ stored_as self frame next_frame decoder }
     {
-        let variant = self.variant;
-        let info = self.info;
-        let even = self.even;
-        let odd = self.odd;
         if frame % 2 == 0 {
             return StreamCache {
-                valid: self.valid,
-                variant,
-                info,
-                even: Cached::Frame(frame),
-                odd,
+                even: Some(frame),
                 next_frame,
                 decoder,
+                ..self
             };
         }
         StreamCache {
-            valid: self.valid,
-            variant,
-            info,
-            even,
-            odd: Cached::Frame(frame),
+            odd: Some(frame),
             next_frame,
             decoder,
+            ..self
         }
     }
 
     fn rewound(self) -> StreamCache
         ensures { result ≡ rewound_from self }
     {
-        let variant = self.variant;
-        let info = self.info;
         StreamCache {
-            valid: self.valid,
-            variant,
-            info,
-            even: Cached::Nothing,
-            odd: Cached::Nothing,
+            even: None,
+            odd: None,
             next_frame: 0,
-            decoder: start_state(),
+            decoder: State::default(),
+            ..self
         }
     }
 
@@ -228,10 +198,8 @@ impl StreamCache {
             ≡ (onward_in file.now variant self.info (stock self samples.old) target).samples }
     {
         let mut c = self;
-        let mut n = self.next_frame;
-        while n <= target {
+        for n in self.next_frame..target + 1 {
             c = c.step(&mut *samples, file, variant);
-            n += 1;
         }
         c
     }

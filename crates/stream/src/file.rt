@@ -3,8 +3,9 @@ ghost use Rattle.std.specs.Prelude.{◌≡◌, ◌+◌, ◌^◌, ◌<◌, ◌≤
 ghost use Rattle.sqv4.specs.Files.{inspected};
 ghost use Rattle.stream.specs.File.{info_of, looped, is_wanted, opened_as, opened_in};
 
-use crate::{Info, Opened};
-use sqv4::{Header, Inspected};
+use crate::Info;
+use adpcm::Variant;
+use sqv4::Header;
 
 fn info_of(header: Header, loop_sample: usize) -> Info
     ensures { result ≡ info_of header loop_sample }
@@ -28,28 +29,28 @@ fn at_start(start: usize, loop_addr: usize) -> bool
 }
 
 // A loop address is 0, the start, or the address of a fragment.
-fn with_loop(start: usize, loop_addr: usize, header: Header) -> Opened
+fn with_loop(start: usize, loop_addr: usize, header: Header) -> Option<(Variant, Info)>
     requires { (start + 16 < 2 ^ 64) × (0 < header.frame_size) × (header.frame_count < 2 ^ 32) × (header.frame_samples ≤ 64) }
     ensures { result ≡ looped start loop_addr header }
 {
     let variant = header.variant;
     if at_start(start, loop_addr) {
-        return Opened::File(variant, info_of(header, 0));
+        return Some((variant, info_of(header, 0)));
     }
     let first = start + 16;
     if loop_addr < first {
-        return Opened::NoFile;
+        return None;
     }
     let offset = loop_addr - first;
     let size = header.frame_size;
     if offset % size != 0 {
-        return Opened::NoFile;
+        return None;
     }
     let frame = offset / size;
     if frame < header.frame_count {
-        return Opened::File(variant, info_of(header, frame * header.frame_samples));
+        return Some((variant, info_of(header, frame * header.frame_samples)));
     }
-    Opened::NoFile
+    None
 }
 
 // Mono files: version 3 where it is wanted, versions 1 and 2 elsewhere.
@@ -65,18 +66,22 @@ fn is_wanted(wants_v3: bool, channels: u8, version: u8) -> bool
     false
 }
 
-fn open_bytes(file: &[u8], wants_v3: bool, start: usize, loop_addr: usize) -> Opened
+fn open_bytes(
+    file: &[u8],
+    wants_v3: bool,
+    start: usize,
+    loop_addr: usize,
+) -> Option<(Variant, Info)>
     requires { start + length file.now < 2 ^ 64 }
     ensures { result ≡ opened_as wants_v3 start loop_addr (inspected file.now) }
 {
-    let inspected = sqv4::inspect(file);
-    let Inspected::Accepted(header) = inspected else {
-        return Opened::NoFile;
+    let Ok(header) = sqv4::inspect(file) else {
+        return None;
     };
     if is_wanted(wants_v3, header.channels, header.version) {
         return with_loop(start, loop_addr, header);
     }
-    Opened::NoFile
+    None
 }
 
 // The file that a voice finds in the RAM from start to end.
@@ -86,14 +91,14 @@ pub fn initialize_sqv4(
     start: usize,
     end: usize,
     loop_addr: usize,
-) -> Opened
+) -> Option<(Variant, Info)>
     ensures { result ≡ opened_in ram.now wants_v3 start end loop_addr }
 {
     if end <= start {
-        return Opened::NoFile;
+        return None;
     }
     if ram.len() < end {
-        return Opened::NoFile;
+        return None;
     }
     open_bytes(
         sqv4::stream_bytes(ram, start, end),

@@ -11,20 +11,6 @@ use adpcm::{State, Variant};
 pub use cache::clear;
 pub use file::initialize_sqv4;
 
-// The variant that a cache holds.
-#[derive(Clone, Copy)]
-pub enum Held {
-    Nothing,
-    Is(Variant),
-}
-
-// The fragment that a half of the cache holds.
-#[derive(Clone, Copy)]
-pub enum Cached {
-    Nothing,
-    Frame(usize),
-}
-
 // What a voice knows of its file once it is taken.
 #[derive(Clone, Copy)]
 pub struct Info {
@@ -35,24 +21,17 @@ pub struct Info {
     pub loop_sample: usize,
 }
 
-// Everything of a cache but the decoded samples. Those are lent, 128 of them: an even fragment's from 0 on, an odd one's
+// Everything of a cache but the decoded samples, with the fragment that each half holds. Those are lent, 128 of them: an even fragment's from 0 on, an odd one's
 // from 64 on.
 #[derive(Clone, Copy)]
 pub struct StreamCache {
     pub valid: bool,
-    pub variant: Held,
+    pub variant: Option<Variant>,
     pub info: Info,
-    pub even: Cached,
-    pub odd: Cached,
+    pub even: Option<usize>,
+    pub odd: Option<usize>,
     pub next_frame: usize,
     pub decoder: State,
-}
-
-// What a voice finds in the RAM.
-#[derive(Clone, Copy)]
-pub enum Opened {
-    NoFile,
-    File(Variant, Info),
 }
 
 // What the registers mean to a stream's ticks.
@@ -74,13 +53,6 @@ pub struct Streamed {
     pub phase: u64,
     pub active: bool,
     pub q8: i32,
-}
-
-// What a tick asks for: nothing, or a sample, with the phase that it is at.
-#[derive(Clone, Copy)]
-pub enum Plan {
-    Stop,
-    Sample(usize, u64),
 }
 
 // What a cache serves from a sample on: that sample's fragment, whose samples are `per` from `first` on, and the next one. Of

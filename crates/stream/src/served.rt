@@ -1,17 +1,8 @@
 // Ticks that the cache serves.
 ghost use Rattle.std.specs.Prelude.{◌≡◌};
-ghost use Rattle.stream.specs.Window.{is_some, reach_of, window_of, offset_in, serves_at, place_in, tap_in, value_in};
+ghost use Rattle.stream.specs.Window.{reach_of, window_of, offset_in, serves_at, place_in, tap_in, value_in};
 
-use crate::{Held, StreamCache, Window};
-
-fn is_some(held: Held) -> bool
-    ensures { result ≡ is_some held }
-{
-    match held {
-        Held::Nothing => false,
-        Held::Is(_) => true,
-    }
-}
+use crate::{StreamCache, Window};
 
 impl StreamCache {
     // How many samples from a fragment's first on are there, together with the one after each. No phase reaches a fragment
@@ -27,13 +18,13 @@ impl StreamCache {
         if !self.valid {
             return 0;
         }
-        if !is_some(held) {
+        if !held.is_some() {
             return 0;
         }
         if !self.has(frame) {
             return 0;
         }
-        let per = crate::accepted::frame_samples_of(info.version);
+        let per = sqv4::frame_samples(info.version);
         let first = frame * per;
         if info.sample_count <= first {
             return 0;
@@ -49,7 +40,7 @@ impl StreamCache {
         ensures { result ≡ window_of self sample }
     {
         let info = self.info;
-        let per = crate::accepted::frame_samples_of(info.version);
+        let per = sqv4::frame_samples(info.version);
         let frame = crate::tick::frame_of(info.version, sample);
         let here = 64 * (frame % 2);
         Window {
@@ -66,7 +57,7 @@ impl Window {
     fn offset(self, sample: usize) -> usize
         ensures { result ≡ offset_in self sample }
     {
-        std::num::wrapping_sub_usize(sample, self.first)
+        sample.wrapping_sub(self.first)
     }
 
     // Whether a sample and the one after it are in the cache.
@@ -82,16 +73,16 @@ impl Window {
     {
         let offset = self.offset(sample);
         if offset < self.per {
-            return std::num::wrapping_add_usize(self.here, offset) % 128;
+            return self.here.wrapping_add(offset) % 128;
         }
-        std::num::wrapping_add_usize(self.next, offset) % 128
+        self.next.wrapping_add(offset) % 128
     }
 
     // A decoded sample, where a voice's start at a base.
     fn tap(self, samples: &[i16; 1024], base: usize, sample: usize) -> i16
         ensures { result ≡ tap_in self samples.now base sample }
     {
-        let at = std::num::wrapping_add_usize(base, self.place(sample)) % 1024;
+        let at = base.wrapping_add(self.place(sample)) % 1024;
         samples[at]
     }
 
@@ -108,7 +99,7 @@ impl Window {
     {
         let current = self.tap(samples, base, sample);
         if interpolate {
-            let next = self.tap(samples, base, std::num::wrapping_add_usize(sample, 1));
+            let next = self.tap(samples, base, sample.wrapping_add(1));
             return tone::blend_samples(current, next, fraction);
         }
         tone::raised_sample(current)

@@ -6,25 +6,26 @@ ghost use Rattle.stream.specs.Tick.{plan_of, blends, heard_at, tick_of};
 ghost use Rattle.stream.specs.Cached.{cached_read, tap_at, held_found, cached_tick, streamed_of};
 ghost use Rattle.stream.specs.Ready.{Ready, with_given};
 
-use crate::{Held, Info, Opened, Plan, Play, StreamCache, Streamed};
+use crate::{Info, Play, StreamCache, Streamed};
 use adpcm::Variant;
 
-fn plan_of(info: Info, p: Play, phase: u64) -> Plan
+// What a tick asks for: nothing, or a sample, with the phase that it is at.
+fn plan_of(info: Info, p: Play, phase: u64) -> Option<(usize, u64)>
     ensures { result ≡ plan_of info p phase }
 {
     let count = info.sample_count;
     let at = tone::whole(phase) as usize;
     if at < count {
-        return Plan::Sample(at, phase);
+        return Some((at, phase));
     }
     if count == 0 {
-        return Plan::Stop;
+        return None;
     }
     if p.loops {
         let again = info.loop_sample;
-        return Plan::Sample(again, tone::phase_of(again as u64));
+        return Some((again, tone::phase_of(again as u64)));
     }
-    Plan::Stop
+    None
 }
 
 // A sample's fragment, and its place there.
@@ -137,13 +138,13 @@ impl Streamed {
     {
         let cache = self.cache;
         let held = cache.variant;
-        let Held::Is(variant) = held else {
+        let Some(variant) = held else {
             return self.silent();
         };
         let phase = self.phase;
         let info = cache.info;
         let plan = plan_of(info, p, phase);
-        let Plan::Sample(i, from) = plan else {
+        let Some((i, from)) = plan else {
             return self.stopped(cache);
         };
         let mut v = self.sample(samples, file, p, variant, i, tone::fraction(phase));
@@ -169,7 +170,7 @@ impl Streamed {
             return self.silent();
         }
         let opened = crate::file::initialize_sqv4(ram, p.wants_v3, p.start, p.end, p.loop_addr);
-        let Opened::File(variant, info) = opened else {
+        let Some((variant, info)) = opened else {
             crate::cache::clear(samples);
             return self.stopped(StreamCache::empty());
         };

@@ -196,8 +196,7 @@ impl Sound {
             }
             WaveformType::Noise => self.noise(n, s),
             WaveformType::DmaPcm => self.dma_pcm(n, s),
-            WaveformType::Sqv4 => self,
-            WaveformType::FifoDac => self,
+            WaveformType::Sqv4 | WaveformType::FifoDac => self,
         }
     }
 }

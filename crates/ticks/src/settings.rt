@@ -7,11 +7,11 @@ use crate::{Oscillator, Setting, Target};
 use registers::{Registers, WaveformType};
 use version::SguVersion;
 
-impl Target {
-    // What stands for a target where there is none.
-    pub fn nothing() -> Target
-        ensures { result ≡ no_target }
-    {
+// What stands for a target where there is none.
+impl Default for Target {
+    ghost is_default = { λ target. target ≡ no_target };
+
+    fn default() -> Target {
         Target {
             last_sample: 0,
             phase: 0,
@@ -20,11 +20,11 @@ impl Target {
     }
 }
 
-impl Oscillator {
-    // A fresh voice's oscillator.
-    pub fn default() -> Oscillator
-        ensures { result ≡ default_oscillator }
-    {
+// A fresh voice's oscillator.
+impl Default for Oscillator {
+    ghost is_default = { λ oscillator. oscillator ≡ default_oscillator };
+
+    fn default() -> Oscillator {
         Oscillator {
             phase: 0,
             old_phase: 0,
@@ -33,15 +33,15 @@ impl Oscillator {
             slew_current: 0,
         }
     }
+}
 
+impl Oscillator {
     // Whether the oscillator is that of an accepted state.
+    #[tactic(auto, unfolding(crate::specs::Oscillators::accepts_oscillator))]
     pub fn accepts(self) -> bool
         ensures { result ≡ accepts_oscillator self }
     {
-        if 65280 < self.slew_current {
-            return false;
-        }
-        self.old_phase < 0x8_0000_0000
+        (self.slew_current <= 65280) & (self.old_phase < 0x8_0000_0000)
     }
 
     // What a voice that is modulated by this one looks at.
@@ -61,12 +61,10 @@ fn step_of(waveform: WaveformType, frequency: u16) -> u64
     ensures { result ≡ step_of waveform frequency }
 {
     match waveform {
-        WaveformType::Wavetable => tone::wave_phase_step(frequency),
+        WaveformType::Wavetable | WaveformType::Noise => tone::wave_phase_step(frequency),
         WaveformType::Pcm => tone::pcm_phase_step(frequency),
-        WaveformType::Noise => tone::wave_phase_step(frequency),
-        WaveformType::DmaPcm => 0,
         WaveformType::Sqv4 => tone::sqv4_phase_step(frequency),
-        WaveformType::FifoDac => 0,
+        WaveformType::DmaPcm | WaveformType::FifoDac => 0,
     }
 }
 
@@ -75,17 +73,15 @@ impl Setting {
     pub fn of(g: Registers, sample_control: u8, version: SguVersion) -> Setting
         ensures { result ≡ setting_of g sample_control version }
     {
-        let waveform = g.waveform_type;
-        let modulation = g.modulation_type;
         Setting {
             volume: g.volume,
             panpot: g.panpot,
-            modulation: modulation.number(),
+            modulation: u8::from(g.modulation_type),
             param_1: g.modulation_param_1,
             param_2: g.modulation_param_2,
             interpolate: version.interpolates(sample_control),
             mask: version.wavetable_mask(sample_control),
-            step: step_of(waveform, g.frequency),
+            step: step_of(g.waveform_type, g.frequency),
         }
     }
 }

@@ -8,13 +8,11 @@ use crate::{Oscillator, Setting, Target, Ticked};
 use sizes::WAVETABLES_SIZE;
 
 // Modulations 1 to 4 look at a target.
+#[tactic(auto, unfolding(crate::specs::Wavetable::looks_at))]
 pub(crate) fn looks_at(modulation: u8) -> bool
     ensures { result ≡ looks_at modulation }
 {
-    if 4 < modulation {
-        return false;
-    }
-    0 < modulation
+    (modulation <= 4) & (0 < modulation)
 }
 
 fn wave_place(phase: u64, s: Setting, t: Target) -> u8

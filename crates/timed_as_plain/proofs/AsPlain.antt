@@ -1,4 +1,5 @@
 -- A timed log is the plain log of its lines with the times written as `C` lines; at a bad line it stops. Assumes nothing.
+use Rattle.std.specs.Prelude.{Ok, Err}
 use mathlib.Core.Path.{◌≡◌, refl, sym, ap, ap₂, ◌∙◌}
 use mathlib.Core.Bool.{Bool, true, false, cond}
 use mathlib.Core.List.{List, [], ◌∷◌, ◌++◌, append_assoc, append-nil}
@@ -13,10 +14,8 @@ use Rattle.log_player.specs.Applied.{after_line, printed}
 use Rattle.log_player.specs.Logs.{end_text, rest_text, log_text}
 use Rattle.plain_chip.specs.Lists.{Every}
 use Rattle.log_resume.specs.Cuts.{no_end, Playable, half, played}
-use Rattle.timed_log.specs.declared.TimedLine.{TimedLine}
-use Rattle.timed_log.specs.declared.TimedLine.TheVariants.{Due, Malformed, Unmapped, Late, Crowded}
 use Rattle.timed_log.specs.declared.Clockwork.{Clockwork}
-use Rattle.timed_log.specs.Lines.{due_of, judged}
+use Rattle.timed_log.specs.Lines.{TimedLine, due_of, judged}
 use Rattle.timed_log.specs.Unrolled.{clock_line, no_frames, applied}
 use Rattle.timed_log.proofs.Judging.{due-is, taken_is}
 use Rattle.timed_as_plain.specs.Scores.{DueLine, End, over, line_scored, scored, score, gap_lines, unrolled_lines, last_lines, all_lines, plain_log, sounded, closing, timed_text}
@@ -69,12 +68,9 @@ dues-playable [] k n line h = tt
 dues-playable (c ∷ cs) k n line h = go (eqb c 10) refl (λ a m. dues-playable cs a m [] refl) (dues-playable cs k n (line ++ (c ∷ [])))
   where
     at : (t : TimedLine) → judged k (due_of line) ≡ t → ((a : Clockwork) (m : ℕ) → Every PlayableDue (scored a m [] cs).dues) → Every PlayableDue (line_scored k n line (λ (a : Clockwork). scored a (suc n) [] cs) t).dues
-    at (Due stamp from) e ih =
-        (record { one = no-end-drop from line h; played = (due-is line stamp from (taken_is k stamp from (due_of line) e).due).good }, ih (applied k stamp) (suc n))
-    at Malformed e ih = tt
-    at Unmapped e ih = tt
-    at Late e ih = tt
-    at Crowded e ih = tt
+    at (Ok due) e ih =
+        (record { one = no-end-drop due.from line h; played = (due-is line due.stamp due.from (taken_is k due.stamp due.from (due_of line) e).due).good }, ih (applied k due.stamp) (suc n))
+    at (Err why) e ih = tt
 
     go : (b : Bool) → eqb c 10 ≡ b → ((a : Clockwork) (m : ℕ) → Every PlayableDue (scored a m [] cs).dues) → (no_end (line ++ (c ∷ [])) ≡ true → Every PlayableDue (scored k n (line ++ (c ∷ [])) cs).dues)
         → Every PlayableDue (cond b (line_scored k n line (λ (a : Clockwork). scored a (suc n) [] cs) (judged k (due_of line))) (scored k n (line ++ (c ∷ [])) cs)).dues

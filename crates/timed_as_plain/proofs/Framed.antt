@@ -1,4 +1,5 @@
 -- A timed log frame by frame. Assumes a chip that lines can reach.
+use Rattle.std.specs.Prelude.{Result, Ok}
 use mathlib.Core.Path.{◌≡◌, refl, sym, ap, ◌∙◌, subst}
 use mathlib.Core.Bool.{Bool, true, false, cond}
 use mathlib.Core.List.{List, [], ◌∷◌, ◌++◌, append_assoc, append-nil}
@@ -8,6 +9,7 @@ use native.Mathlib.Decide.{dec_le}
 use lib.Dec.{eqb}
 use borrow.Author.Tests.{eq-eqb, ne_eqb, eqb-true, eqb-false}
 use Rattle.log_lines.specs.declared.Line.{Line}
+use Rattle.log_lines.specs.declared.LineFault.{LineFault}
 use Rattle.log_lines.specs.declared.Line.TheVariants.{Clock}
 use Rattle.log_lines.specs.Lines.{parsed_line}
 use Rattle.log_player.specs.Worlds.{World, fresh_world}
@@ -45,7 +47,7 @@ abbrev lines : World → List (List ℕ) → Does
 lines w l = does (played w l) (sounded w l)
 
 abbrev one : World → Does
-one w = does (after_line w (Clock 1)) (printed w (Clock 1))
+one w = does (after_line w (Ok (Clock 1))) (printed w (Ok (Clock 1)))
 
 abbrev frames : World → ℕ → ℕ → List DueLine → Does
 frames w f n ds = does (frames_played w f n ds) (by_frames w f n ds)
@@ -69,7 +71,7 @@ lines-append a b w = λ i. does (played-append a b w i) (sounded-append a b w i)
 shift : (n : ℕ) (w : World) (f g : ℕ) → frames w f n [] ≡ frames w g n []
 unfolding frames_played by_frames
 shift zero w f g = refl
-shift (suc n) w f g = then_same (one w) (λ (u : World). frames u (suc f) n []) (λ (u : World). frames u (suc g) n []) (shift n (after_line w (Clock 1)) (suc f) (suc g))
+shift (suc n) w f g = then_same (one w) (λ (u : World). frames u (suc f) n []) (λ (u : World). frames u (suc g) n []) (shift n (after_line w (Ok (Clock 1))) (suc f) (suc g))
 
 frames-add : (a : ℕ) (w : World) (f b : ℕ) (ds : List DueLine) → frames w f (a + b) ds ≡ and_then (frames w f a ds) (λ (v : World). frames v (f + a) b ds)
 unfolding frames_played by_frames
@@ -77,7 +79,7 @@ frames-add zero w f b ds = ap (λ (i : ℕ). frames w f i ds) (let e : 0 + b ≡
 frames-add (suc a) w f b ds =
     let due = lines w (due_at f ds) in
     let v = due.after in
-    let u = after_line v (Clock 1) in
+    let u = after_line v (Ok (Clock 1)) in
     ap (λ (i : ℕ). frames w f i ds) (let e : suc a + b ≡ suc (a + b) = omega arith in e)
     ∙ then_same due (λ (x : World). and_then (one x) (λ (y : World). frames y (suc f) (a + b) ds)) (λ (x : World). and_then (one x) (λ (y : World). and_then (frames y (suc f) a ds) (λ (z : World). frames z (f + suc a) b ds)))
     (then_same (one v) (λ (y : World). frames y (suc f) (a + b) ds) (λ (y : World). and_then (frames y (suc f) a ds) (λ (z : World). frames z (f + suc a) b ds))
@@ -87,21 +89,21 @@ frames-add (suc a) w f b ds =
     ∙ sym (then-assoc due (λ (x : World). and_then (one x) (λ (y : World). frames y (suc f) a ds)) (λ (z : World). frames z (f + suc a) b ds))
 
 -- a `C` line
-clock-frames : (n : ℕ) (w : World) → Held w → suc n ≤ clock_most → does (after_line w (Clock (suc n))) (printed w (Clock (suc n))) ≡ frames w 0 (suc n) []
+clock-frames : (n : ℕ) (w : World) → Held w → suc n ≤ clock_most → does (after_line w (Ok (Clock (suc n)))) (printed w (Ok (Clock (suc n)))) ≡ frames w 0 (suc n) []
 unfolding frames_played by_frames
 clock-frames zero w h l = sym (then-none (one w))
 clock-frames (suc n) w h l =
     let s = clock-splits (suc n) w 1 (omega arith) (omega arith) (omega arith) h in
-    let u = after_line w (Clock 1) in
-    ap (λ (k : ℕ). does (after_line w (Clock k)) (printed w (Clock k))) (let e : suc (suc n) ≡ 1 + suc n = omega arith in e) ∙ (λ i. does (s.after i) (s.text i))
-    ∙ then_same (one w) (λ (v : World). does (after_line v (Clock (suc n))) (printed v (Clock (suc n)))) (λ (v : World). frames v 1 (suc n) [])
+    let u = after_line w (Ok (Clock 1)) in
+    ap (λ (k : ℕ). does (after_line w (Ok (Clock k))) (printed w (Ok (Clock k)))) (let e : suc (suc n) ≡ 1 + suc n = omega arith in e) ∙ (λ i. does (s.after i) (s.text i))
+    ∙ then_same (one w) (λ (v : World). does (after_line v (Ok (Clock (suc n)))) (printed v (Ok (Clock (suc n))))) (λ (v : World). frames v 1 (suc n) [])
     (clock-frames n u (held-clock w 1 (omega arith) (omega arith) h) (omega arith) ∙ shift (suc n) u 0 1)
 
 clock-lines : (n : ℕ) (w : World) → Held w → 1 ≤ n → n ≤ clock_most → lines w (clock_line n ∷ []) ≡ frames w 0 n []
 clock-lines zero w h a b = absurd (omega arith)
 clock-lines (suc n) w h a b =
     then-none (does (after_line w (parsed_line (clock_line (suc n)))) (printed w (parsed_line (clock_line (suc n)))))
-    ∙ ap (λ (l : Line). does (after_line w l) (printed w l)) (clock-line (suc n) a b) ∙ clock-frames n w h b
+    ∙ ap (λ (l : Result Line LineFault). does (after_line w l) (printed w l)) (clock-line (suc n) a b) ∙ clock-frames n w h b
 
 frames-none : (w : World) (f : ℕ) (ds : List DueLine) → does w [] ≡ frames w f 0 ds
 unfolding frames_played by_frames
@@ -164,7 +166,7 @@ skip (suc n) d ds w f h =
     frames-step w f n (d ∷ ds)
     ∙ ap (λ (l : List (List ℕ)). and_then (lines w l) (λ (v : World). and_then (one v) (λ (u : World). frames u (suc f) n (d ∷ ds)))) e
     ∙ then_same (lines w (due_at f ds)) (λ (v : World). and_then (one v) (λ (u : World). frames u (suc f) n (d ∷ ds))) (λ (v : World). and_then (one v) (λ (u : World). frames u (suc f) n ds))
-    (then_same (one (played w (due_at f ds))) (λ (u : World). frames u (suc f) n (d ∷ ds)) (λ (u : World). frames u (suc f) n ds) (skip n d ds (after_line (played w (due_at f ds)) (Clock 1)) (suc f) (omega arith)))
+    (then_same (one (played w (due_at f ds))) (λ (u : World). frames u (suc f) n (d ∷ ds)) (λ (u : World). frames u (suc f) n ds) (skip n d ds (after_line (played w (due_at f ds)) (Ok (Clock 1))) (suc f) (omega arith)))
     ∙ sym (frames-step w f n ds)
 
 -- frames before it have no line
@@ -173,7 +175,7 @@ silent-due zero d ds k w f e q o = sym (frames-none w f (d ∷ ds)) ∙ frames-n
 silent-due (suc n) d ds k w f e q o =
     frames-step w f n (d ∷ ds)
     ∙ ap (λ (l : List (List ℕ)). and_then (lines w l) (λ (v : World). and_then (one v) (λ (u : World). frames u (suc f) n (d ∷ ds)))) (late_due d ds f (λ z. absurd (omega arith)) ∙ none_below ds k f (omega arith) o)
-    ∙ then_same (one w) (λ (u : World). frames u (suc f) n (d ∷ ds)) (λ (u : World). frames u (suc f) n []) (silent-due n d ds k (after_line w (Clock 1)) (suc f) (omega arith) q o)
+    ∙ then_same (one w) (λ (u : World). frames u (suc f) n (d ∷ ds)) (λ (u : World). frames u (suc f) n []) (silent-due n d ds k (after_line w (Ok (Clock 1))) (suc f) (omega arith) q o)
     ∙ sym (frames-step w f n [])
 
 -- at its own frame it is the first
@@ -204,7 +206,7 @@ first (suc m) d ds w =
     ∙ sym (then-assoc (lines w (d.line ∷ due_at s ds)) rest last)
     ∙ then_by _ _ last
     (then_same (lines w (d.line ∷ due_at s ds)) rest (λ (x : World). and_then (one x) (λ (y : World). frames y (suc s) m (d ∷ ds)))
-    (then_same (one v) (λ (y : World). frames y (suc s) m ds) (λ (y : World). frames y (suc s) m (d ∷ ds)) (sym (skip m d ds (after_line v (Clock 1)) (suc s) (omega arith))))
+    (then_same (one v) (λ (y : World). frames y (suc s) m ds) (λ (y : World). frames y (suc s) m (d ∷ ds)) (sym (skip m d ds (after_line v (Ok (Clock 1))) (suc s) (omega arith))))
     ∙ ap (λ (l : List (List ℕ)). and_then (lines w l) (λ (x : World). and_then (one x) (λ (y : World). frames y (suc s) m (d ∷ ds)))) (sym (here-due d ds)) ∙ sym (frames-step w s m (d ∷ ds)))
     ∙ ap (λ (l : List (List ℕ)). and_then (frames w s (suc m) (d ∷ ds)) (λ (x : World). lines x l)) (sym (late_due d ds (s + suc m) (λ q. absurd (omega arith))))
 

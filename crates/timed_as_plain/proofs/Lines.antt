@@ -1,4 +1,5 @@
 -- The lines of a timed log's plain log are played. Assumes nothing.
+use Rattle.std.specs.Prelude.{Ok}
 use mathlib.Core.Path.{◌≡◌, refl, sym, ap, ◌∙◌}
 use mathlib.Core.Bool.{Bool, true, false, cond}
 use mathlib.Core.List.{List, [], ◌∷◌, ◌++◌, append-nil}
@@ -10,7 +11,6 @@ use lib.ListN.{length, drop, replicate}
 use borrow.Author.Tests.{eq-eqb, ne_eqb, eqb-false, le-leb}
 use Rattle.num.proofs.Choice.{cond-by, never}
 use Rattle.decimal.specs.Written.{digits_in, decimal}
-use Rattle.decimal.specs.declared.TakenNatural.{TakenNatural}
 use Rattle.decimal.proofs.RoundTrip.{natural-back}
 use Rattle.log_lines.specs.declared.Line.TheVariants.{Clock}
 use Rattle.log_lines.specs.Lines.{one_of, one_at, clock_of, parsed_line, is_bad}
@@ -19,6 +19,7 @@ use Rattle.plain_chip.specs.Lists.{Every}
 use Rattle.log_resume.specs.Cuts.{no_end, Playable}
 use Rattle.timed_log.specs.Unrolled.{clock_most, clock_line}
 use Rattle.timed_as_plain.specs.Scores.{gap_lines}
+use Rattle.decimal.specs.Read.{Numeral}
 
 -- ---- no byte 10
 pub no-end-append : (a b : List ℕ) → no_end a ≡ true → no_end b ≡ true → no_end (a ++ b) ≡ true
@@ -58,10 +59,10 @@ digits-no-end (suc turns) n =
     (λ e. digit-no-end n) (λ e. no-end-append (digits_in turns (n / 10)) ((48 + n % 10) ∷ []) (digits-no-end turns (n / 10)) (digit-no-end (n % 10)))
 
 -- ---- a `C` line that is written is read as the same number of frames
-pub clock-line : (n : ℕ) → 1 ≤ n → n ≤ clock_most → parsed_line (clock_line n) ≡ Clock n
+pub clock-line : (n : ℕ) → 1 ≤ n → n ≤ clock_most → parsed_line (clock_line n) ≡ Ok (Clock n)
 unfolding parsed_line one_at clock_line
 clock-line n low high =
-    ap (λ (r : TakenNatural). clock_of (one_of (67 ∷ 44 ∷ decimal n) 1000 r)) (natural-back n (67 ∷ 44 ∷ decimal n) [] 2 (omega arith) (sym (append-nil (decimal n))) refl)
+    ap (λ (r : Numeral ℕ). clock_of (one_of (67 ∷ 44 ∷ decimal n) 1000 r)) (natural-back n (67 ∷ 44 ∷ decimal n) [] 2 (omega arith) (sym (append-nil (decimal n))) refl)
     ∙ rw (eq-eqb (2 + length (decimal n)) (length (67 ∷ 44 ∷ decimal n)) (omega arith), le-leb n 1000 high, ne_eqb n 0 (λ e. absurd (omega arith)))
 
 clock-no-end : (n : ℕ) → no_end (clock_line n) ≡ true

@@ -1,4 +1,5 @@
 -- What is due in a timed log: stamps never fall, a frame has at most 64 lines, and the frames below the last stamp sound. Assumes nothing.
+use Rattle.std.specs.Prelude.{Result, Ok, Err, Some, None}
 use mathlib.Core.Path.{◌≡◌, refl, sym, ap, ap₂, ◌∙◌, subst}
 use mathlib.Core.Bool.{Bool, true, false, cond}
 use mathlib.Core.List.{List, [], ◌∷◌, ◌++◌}
@@ -8,16 +9,15 @@ use lib.Dec.{eqb, leb}
 use lib.ListN.{length, get_or, drop, replicate}
 use borrow.Author.Tests.{eq-eqb, ne_eqb, eqb-true, eqb-false}
 use Rattle.num.proofs.Choice.{cond-by}
-use Rattle.decimal.specs.Read.{natural_at}
-use Rattle.decimal.specs.declared.TakenNatural.{TakenNatural}
-use Rattle.decimal.specs.declared.TakenNatural.TheVariants.{Natural, NoNatural}
+use Rattle.decimal.specs.Read.{natural_at, Numeral}
 use Rattle.log_lines.specs.declared.Line.{Line}
 use Rattle.log_lines.specs.declared.Line.TheVariants as plain
 use Rattle.log_lines.specs.Lines.{parsed_line}
-use Rattle.timed_log.specs.declared.TimedLine.{TimedLine}
-use Rattle.timed_log.specs.declared.TimedLine.TheVariants.{Due, Malformed, Unmapped, Late, Crowded}
+use Rattle.log_lines.specs.declared.LineFault.{LineFault}
+use Rattle.log_lines.specs.declared.LineFault.TheVariants.{Malformed}
+use Rattle.timed_log.specs.declared.Due.{Due}
 use Rattle.timed_log.specs.declared.Clockwork.{Clockwork}
-use Rattle.timed_log.specs.Lines.{frame_most, stamp_most, stamped_line, due_behind, due_of, due_already, judged}
+use Rattle.timed_log.specs.Lines.{as_due, TimedLine, frame_most, stamp_most, stamped_line, due_behind, due_of, due_already, judged}
 use Rattle.timed_log.specs.Unrolled.{clock_most, clock_line, clockwork, no_frames, applied}
 use Rattle.timed_log.proofs.Judging.{taken_is}
 use Rattle.timed_as_plain.specs.Scores.{DueLine, Score, line_scored, scored, score, gap_lines, unrolled_lines}
@@ -25,34 +25,34 @@ use Rattle.timed_as_plain.specs.Frames.{due_at, last_stamp, frames_by, frames_in
 use Rattle.timed_as_plain.proofs.Lines.{clock-line}
 
 -- ---- a line that is due sounds nothing
-no-clock : (text : List ℕ) (stamp from : ℕ) → due_of text ≡ Due stamp from → frames_by (parsed_line (drop from text)) ≡ 0
+no-clock : (text : List ℕ) (stamp from : ℕ) → due_of text ≡ Ok (as_due stamp from) → frames_by (parsed_line (drop from text)) ≡ 0
 unfolding due_of
 no-clock text stamp from = go (natural_at text 0)
   where
     If : TimedLine → Type 0
-    If t = t ≡ Due stamp from → frames_by (parsed_line (drop from text)) ≡ 0
+    If t = t ≡ Ok (as_due stamp from) → frames_by (parsed_line (drop from text)) ≡ 0
 
-    none : Malformed ≡ Due stamp from → frames_by (parsed_line (drop from text)) ≡ 0
+    none : ◌≡◌ {A = TimedLine} (Err Malformed) (Ok (as_due stamp from)) → frames_by (parsed_line (drop from text)) ≡ 0
     none q = absurd (let z : ◌≡◌ {A = ℕ} 0 1 = cc in omega arith)
 
-    line : (n next : ℕ) (l : Line) → parsed_line (drop (next + 1) text) ≡ l → frames_by l ≡ 0 → Due n (next + 1) ≡ Due stamp from → frames_by (parsed_line (drop from text)) ≡ 0
+    line : (n next : ℕ) (l : Result Line LineFault) → parsed_line (drop (next + 1) text) ≡ l → frames_by l ≡ 0 → ◌≡◌ {A = TimedLine} (Ok (as_due n (next + 1))) (Ok (as_due stamp from)) → frames_by (parsed_line (drop from text)) ≡ 0
     line n next l e b q =
-        let f : next + 1 ≡ from = cc in
+        let same : as_due n (next + 1) ≡ as_due stamp from = cc in
+        let f : next + 1 ≡ from = ap (λ (d : Due). d.from) same in
         ap (λ (i : ℕ). frames_by (parsed_line (drop i text))) (sym f) ∙ ap frames_by e ∙ b
 
-    stamped : (n next : ℕ) (l : Line) → parsed_line (drop (next + 1) text) ≡ l → If (stamped_line n (next + 1) l)
-    stamped n next (plain.Write a v) e = line n next (plain.Write a v) e refl
-    stamped n next (plain.WriteRam a v) e = line n next (plain.WriteRam a v) e refl
-    stamped n next (plain.Read a) e = line n next (plain.Read a) e refl
-    stamped n next (plain.Peek a) e = line n next (plain.Peek a) e refl
-    stamped n next (plain.Clock a) e = none
-    stamped n next (plain.Version v) e = line n next (plain.Version v) e refl
-    stamped n next plain.Malformed e = none
-    stamped n next plain.Unmapped e = λ q. absurd (let z : ◌≡◌ {A = ℕ} 0 1 = cc in omega arith)
+    stamped : (n next : ℕ) (l : Result Line LineFault) → parsed_line (drop (next + 1) text) ≡ l → If (stamped_line n (next + 1) l)
+    stamped n next (Ok (plain.Write a v)) e = line n next (Ok (plain.Write a v)) e refl
+    stamped n next (Ok (plain.WriteRam a v)) e = line n next (Ok (plain.WriteRam a v)) e refl
+    stamped n next (Ok (plain.Read a)) e = line n next (Ok (plain.Read a)) e refl
+    stamped n next (Ok (plain.Peek a)) e = line n next (Ok (plain.Peek a)) e refl
+    stamped n next (Ok (plain.Clock a)) e = none
+    stamped n next (Ok (plain.Version v)) e = line n next (Ok (plain.Version v)) e refl
+    stamped n next (Err why) e = λ q. absurd (let z : ◌≡◌ {A = ℕ} 0 1 = cc in omega arith)
 
-    go : (t : TakenNatural) → If (due_behind text t)
-    go NoNatural = none
-    go (Natural n next) =
+    go : (t : Numeral ℕ) → If (due_behind text t)
+    go None = none
+    go (Some (n, next)) =
         cond-by If (leb n stamp_most) _ _ (λ a. cond-by If (eqb (get_or text next 0) 44) _ _ (λ b. stamped n next (parsed_line (drop (next + 1) text)) refl) (λ b. none)) (λ a. none)
 
 -- ---- stamps never fall, and no frame gets a line too many
@@ -67,13 +67,10 @@ scored-ordered (c ∷ cs) k n line =
     cond-by (λ (s : Score). Ordered k s.dues) (eqb c 10) _ _ (λ e. at (judged k (due_of line)) refl (λ a. scored-ordered cs a (suc n) [])) (λ e. scored-ordered cs k n (line ++ (c ∷ [])))
   where
     at : (t : TimedLine) → judged k (due_of line) ≡ t → ((a : Clockwork) → Ordered a (scored a (suc n) [] cs).dues) → Ordered k (line_scored k n line (λ (a : Clockwork). scored a (suc n) [] cs) t).dues
-    at (Due stamp from) e ih =
-        let t = taken_is k stamp from (due_of line) e in
-        ((t.late, t.few, no-clock line stamp from t.due), ih (applied k stamp))
-    at Malformed e ih = tt
-    at Unmapped e ih = tt
-    at Late e ih = tt
-    at Crowded e ih = tt
+    at (Ok due) e ih =
+        let t = taken_is k due.stamp due.from (due_of line) e in
+        ((t.late, t.few, no-clock line due.stamp due.from t.due), ih (applied k due.stamp))
+    at (Err why) e ih = tt
 
 pub applied-is : (k : Clockwork) (stamp : ℕ) → applied k stamp ≡ clockwork stamp (suc (due_already k stamp))
 unfolding applied
@@ -141,7 +138,7 @@ frames-append (line ∷ a) b = ap (λ (n : ℕ). frames_by (parsed_line line) + 
 
 clocks : (n : ℕ) → frames_in (replicate n (clock_line clock_most)) ≡ n * clock_most
 clocks zero = refl
-clocks (suc n) = ap₂ (λ (l : Line) (m : ℕ). frames_by l + m) (clock-line clock_most (omega arith) (omega arith)) (clocks n) ∙ omega arith
+clocks (suc n) = ap₂ (λ (l : Result Line LineFault) (m : ℕ). frames_by l + m) (clock-line clock_most (omega arith) (omega arith)) (clocks n) ∙ omega arith
 
 pub gap-frames : (gap : ℕ) → frames_in (gap_lines gap) ≡ gap
 unfolding gap_lines
@@ -153,7 +150,7 @@ gap-frames gap =
     ∙ omega arith
   where
     some : (gap % clock_most ≡ 0 → ⊥) → frames_by (parsed_line (clock_line (gap % clock_most))) + 0 ≡ gap % clock_most
-    some n = ap (λ (l : Line). frames_by l + 0) (clock-line (gap % clock_most) (omega arith) (omega arith)) ∙ omega arith
+    some n = ap (λ (l : Result Line LineFault). frames_by l + 0) (clock-line (gap % clock_most) (omega arith) (omega arith)) ∙ omega arith
 
 last-frames : (dues : List DueLine) (k : Clockwork) → Ordered k dues → k.frames + frames_in (unrolled_lines k.frames dues) ≡ last_stamp k.frames dues
 last-frames [] k o = omega arith

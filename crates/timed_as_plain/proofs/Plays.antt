@@ -1,4 +1,5 @@
 -- A run over lines that are written out plays some of them. Assumes nothing.
+use Rattle.std.specs.Prelude.{Result, Err, Ok, Some, None}
 use mathlib.Core.Path.{◌≡◌, refl, sym, ap, ◌∙◌, subst}
 use mathlib.Core.Bool.{Bool, true, false, cond}
 use mathlib.Core.List.{List, [], ◌∷◌, ◌++◌, append_assoc}
@@ -9,9 +10,10 @@ use lib.ListN.{length, drop, length-append}
 use lib.Seq.{drop-drop, drop-append-add}
 use borrow.Author.Tests.{ne_eqb}
 use Rattle.num.proofs.Choice.{never}
-use Rattle.log_lines.specs.Lines.{parsed_line}
-use Rattle.log_player.specs.declared.Next.{Next}
-use Rattle.log_player.specs.declared.Next.TheVariants.{Line, Rest}
+use Rattle.log_lines.specs.declared.Line.{Line}
+use Rattle.log_lines.specs.declared.LineFault.{LineFault}
+use Rattle.log_lines.specs.Lines.{parsed_line, is_bad}
+use Rattle.log_player.specs.Steps.{Next, line_found}
 use Rattle.log_player.specs.Worlds.{World}
 use Rattle.log_player.specs.Applied.{after_line, printed}
 use Rattle.log_player.specs.Steps.{first_line, next_of}
@@ -42,22 +44,26 @@ first-is (c ∷ line) rest h = go (eqb c 10) h (first-is line rest)
     go true e ih = never (sym e)
     go false e ih = ap (λ (l : List ℕ). c ∷ l) (ih e)
 
-next-is : (line rest : List ℕ) (at : ℕ) → Playable line → next_of (line ++ (10 ∷ rest)) at ≡ Line (at + length line + 1)
+found-good : (place : ℕ) (line : Result Line LineFault) → is_bad line ≡ false → line_found place line ≡ Ok (Some place)
+found-good place (Ok line) e = refl
+found-good place (Err why) e = never e
+
+next-is : (line rest : List ℕ) (at : ℕ) → Playable line → next_of (line ++ (10 ∷ rest)) at ≡ Ok (Some (at + length line + 1))
 unfolding next_of
 next-is line rest at p =
-    rw (first-is line rest p.one, ne_eqb (length line) (length (line ++ (10 ∷ rest))) (λ e. absurd (longer e)), p.played)
+    rw (first-is line rest p.one, ne_eqb (length line) (length (line ++ (10 ∷ rest))) (λ e. absurd (longer e))) (found-good (at + length line + 1) (parsed_line line) p.played)
   where
     longer : length line ≡ length (line ++ (10 ∷ rest)) → ⊥
     longer e = omega (arith, e, length-append line (10 ∷ rest))
 
-next-none : (at : ℕ) → next_of [] at ≡ Rest
+next-none : (at : ℕ) → next_of [] at ≡ Ok None
 unfolding next_of first_line
 next-none at = refl
 
 -- ---- where a run stops among lines
 pub data Where (left : List (List ℕ)) (next : Next) : Type 0 where
-  all : left ≡ [] → next ≡ Rest → Where left next
-  some : (place : ℕ) → next ≡ Line place → Where left next
+  all : left ≡ [] → next ≡ Ok None → Where left next
+  some : (place : ℕ) → next ≡ Ok (Some place) → Where left next
 
 pub record Stopped (w : World) (from : ℕ) (text : List ℕ) (lines : List (List ℕ)) (r : Run) : Type 0 where
   pub done : List (List ℕ)
@@ -84,7 +90,7 @@ module _ (room : ℕ) (input : List ℕ) where
       s : Spot
       s = spot w number from text
 
-      none : next_of (drop from input) from ≡ Rest
+      none : next_of (drop from input) from ≡ Ok None
       none = ap (λ (l : List ℕ). next_of l from) e ∙ next-none from
 
       go : (b : Bool) → has_room room (length text) number ≡ b → Stopped w from text [] (at w number from text)
@@ -97,7 +103,7 @@ module _ (room : ℕ) (input : List ℕ) where
       s : Spot
       s = spot w number from text
 
-      here : next_of (drop from input) from ≡ Line (from + length line + 1)
+      here : next_of (drop from input) from ≡ Ok (Some (from + length line + 1))
       here = ap (λ (l : List ℕ). next_of l from) e ∙ next-is line (half lines) from p.0
 
       own : first_line (drop from input) ≡ line

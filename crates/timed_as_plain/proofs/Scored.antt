@@ -1,4 +1,5 @@
 -- A timed log line by line: a line that is written out, and what is left, are what the log prints. Assumes nothing.
+use Rattle.std.specs.Prelude.{Ok, Err, Some, None}
 use mathlib.Core.Path.{◌≡◌, refl, sym, ap, ◌∙◌, subst}
 use mathlib.Core.Bool.{Bool, true, false, cond}
 use mathlib.Core.List.{List, [], ◌∷◌, ◌++◌, append_assoc, append-nil}
@@ -10,20 +11,18 @@ use lib.Seq.{take-length}
 use borrow.Author.Tests.{ne_eqb, leb-true, lt-leb, le-ltb}
 use Rattle.num.proofs.Choice.{cond-by, never}
 use Rattle.decimal.specs.Written.{decimal}
-use Rattle.decimal.specs.Read.{natural_at}
-use Rattle.decimal.specs.declared.TakenNatural.{TakenNatural}
-use Rattle.decimal.specs.declared.TakenNatural.TheVariants.{Natural, NoNatural}
+use Rattle.decimal.specs.Read.{natural_at, Numeral}
 use Rattle.decimal.proofs.Writing.{width-below}
 use Rattle.decimal.proofs.RoundTrip.{natural-only-written}
+use Rattle.log_lines.specs.declared.LineFault.TheVariants.{Malformed}
+use Rattle.log_lines.specs.Lines.{number_of}
 use Rattle.log_lines.proofs.Long.{long-line}
 use Rattle.log_player.specs.Steps.{first_line}
 use Rattle.log_player.specs.Worlds.{World}
 use Rattle.log_player.proofs.Stops.{first-taken}
 use Rattle.log_resume.specs.Cuts.{no_end, Playable, played}
-use Rattle.timed_log.specs.declared.TimedLine.{TimedLine}
-use Rattle.timed_log.specs.declared.TimedLine.TheVariants.{Due, Malformed}
 use Rattle.timed_log.specs.declared.Clockwork.{Clockwork}
-use Rattle.timed_log.specs.Lines.{frame_most, stamp_most, longest, stamped_line, due_behind, due_of, bad_number, due_already, judged}
+use Rattle.timed_log.specs.Lines.{as_due, TimedLine, frame_most, stamp_most, longest, stamped_line, due_behind, due_of, due_already, judged}
 use Rattle.timed_log.specs.Unrolled.{clock_most, clock_line, clockwork, applied}
 use Rattle.timed_log.proofs.Judging.{IsTaken}
 use Rattle.timed_log.proofs.Found.{first-split, Found}
@@ -52,44 +51,44 @@ pub score-line : (line tail : List ℕ) (k : Clockwork) (n : ℕ) → no_end lin
 score-line line tail k n h = score-through line (10 ∷ tail) k n [] h ∙ at-end line tail k n
 
 -- the end of a log
-score-none : (line : List ℕ) (k : Clockwork) (n : ℕ) → scored k n line [] ≡ ends k (cond (eqb (length line) 0) over (stop n (bad_number Malformed)))
+score-none : (line : List ℕ) (k : Clockwork) (n : ℕ) → scored k n line [] ≡ ends k (cond (eqb (length line) 0) over (stop n (number_of Malformed)))
 unfolding scored
 score-none line k n = refl
 
-pub score-open : (line : List ℕ) (k : Clockwork) (n : ℕ) → no_end line ≡ true → scored k n [] line ≡ ends k (cond (eqb (length line) 0) over (stop n (bad_number Malformed)))
+pub score-open : (line : List ℕ) (k : Clockwork) (n : ℕ) → no_end line ≡ true → scored k n [] line ≡ ends k (cond (eqb (length line) 0) over (stop n (number_of Malformed)))
 score-open line k n h = ap (scored k n []) (sym (append-nil line)) ∙ score-through line [] k n [] h ∙ score-none line k n
 
 -- ---- a line that is too long
-stamp-width : (text : List ℕ) (n next : ℕ) → n ≤ stamp_most → natural_at text 0 ≡ Natural n next → length text ≤ 10 + (length text - next)
+stamp-width : (text : List ℕ) (n next : ℕ) → n ≤ stamp_most → natural_at text 0 ≡ Some (n, next) → length text ≤ 10 + (length text - next)
 stamp-width text n next h e =
     let b : length (drop 0 text) ≡ length (decimal n) + length (drop next text) = ap length (natural-only-written n text 0 next e) ∙ length-append (decimal n) (drop next text) in
     omega (arith, length-drop next text, width-below 9 n (omega arith))
 
-pub long-due : (text : List ℕ) → longest < length text → due_of text ≡ Malformed
+pub long-due : (text : List ℕ) → longest < length text → due_of text ≡ Err Malformed
 unfolding due_of
 long-due text h = go (natural_at text 0) refl
   where
-    go : (t : TakenNatural) → natural_at text 0 ≡ t → due_behind text t ≡ Malformed
-    go NoNatural e = refl
-    go (Natural n next) e =
-        cond-by (λ (x : TimedLine). x ≡ Malformed) (leb n stamp_most) _ _
-        (λ a. cond-by (λ (x : TimedLine). x ≡ Malformed) (eqb (get_or text next 0) 44) _ _
+    go : (t : Numeral ℕ) → natural_at text 0 ≡ t → due_behind text t ≡ Err Malformed
+    go None e = refl
+    go (Some (n, next)) e =
+        cond-by (λ (x : TimedLine). x ≡ Err Malformed) (leb n stamp_most) _ _
+        (λ a. cond-by (λ (x : TimedLine). x ≡ Err Malformed) (eqb (get_or text next 0) 44) _ _
         (λ b. ap (stamped_line n (next + 1)) (long-line (drop (next + 1) text) (omega (arith, length-drop (next + 1) text, stamp-width text n next (leb-true n stamp_most a) e)))) (λ b. refl))
         (λ a. refl)
 
-judged-malformed : (k : Clockwork) → judged k Malformed ≡ Malformed
+judged-malformed : (k : Clockwork) → judged k (Err Malformed) ≡ Err Malformed
 unfolding judged
 judged-malformed k = refl
 
-score-far : (l : List ℕ) (k : Clockwork) (n : ℕ) (pre : List ℕ) → longest < length pre → scored k n pre l ≡ ends k (stop n (bad_number Malformed))
+score-far : (l : List ℕ) (k : Clockwork) (n : ℕ) (pre : List ℕ) → longest < length pre → scored k n pre l ≡ ends k (stop n (number_of Malformed))
 unfolding scored
 score-far [] k n pre h = rw (ne_eqb (length pre) 0 (λ e. absurd (omega arith)))
 score-far (c ∷ cs) k n pre h =
-    cond-by (λ (s : Score). s ≡ ends k (stop n (bad_number Malformed))) (eqb c 10) _ _
+    cond-by (λ (s : Score). s ≡ ends k (stop n (number_of Malformed))) (eqb c 10) _ _
     (λ e. ap (line_scored k n pre (λ (a : Clockwork). scored a (suc n) [] cs)) (ap (judged k) (long-due pre h) ∙ judged-malformed k))
     (λ e. score-far cs k n (pre ++ (c ∷ [])) (rw (length-append pre (c ∷ [])) (omega arith)))
 
-pub score-long : (rest more : List ℕ) (k : Clockwork) (n : ℕ) → no_end rest ≡ true → longest < length rest → scored k n [] (rest ++ more) ≡ ends k (stop n (bad_number Malformed))
+pub score-long : (rest more : List ℕ) (k : Clockwork) (n : ℕ) → no_end rest ≡ true → longest < length rest → scored k n [] (rest ++ more) ≡ ends k (stop n (number_of Malformed))
 score-long rest more k n e h = score-through rest more k n [] e ∙ score-far more k n rest h
 
 -- an input without byte 10 is its own first line
@@ -104,14 +103,14 @@ applied-frames : (k : Clockwork) (stamp : ℕ) → (applied k stamp).frames ≡ 
 unfolding applied
 applied-frames k stamp = refl
 
-judged-fine : (k : Clockwork) (stamp from : ℕ) → k.frames ≤ stamp → due_already k stamp < frame_most → judged k (Due stamp from) ≡ Due stamp from
+judged-fine : (k : Clockwork) (stamp from : ℕ) → k.frames ≤ stamp → due_already k stamp < frame_most → judged k (Ok (as_due stamp from)) ≡ Ok (as_due stamp from)
 unfolding judged
 judged-fine k stamp from h g = rw (le-ltb stamp k.frames h, lt-leb frame_most (due_already k stamp) g)
 
 parted : {A : Type 0} (a b : List A) (x : A) (c : List A) → a ++ (b ++ (x ∷ c)) ≡ (a ++ (b ++ (x ∷ []))) ++ c
 parted a b x c = sym (append_assoc a (b ++ (x ∷ [])) c ∙ ap (λ l. a ++ l) (append_assoc b (x ∷ []) c))
 
-judged-taken : (k : Clockwork) (line : TimedLine) (stamp from : ℕ) → IsTaken k line stamp from → judged k line ≡ Due stamp from
+judged-taken : (k : Clockwork) (line : TimedLine) (stamp from : ℕ) → IsTaken k line stamp from → judged k line ≡ Ok (as_due stamp from)
 judged-taken k line stamp from t = ap (judged k) t.due ∙ judged-fine k stamp from t.late t.few
 
 module _ (k : Clockwork) (rest : List ℕ) (at stamp from to : ℕ) (f : Found k rest at stamp from to) (n : ℕ) (more : List ℕ) where

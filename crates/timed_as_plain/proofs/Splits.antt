@@ -1,4 +1,5 @@
 -- Frames in one `C` line or in two: they print the same, and leave the same. Assumes a chip that lines can reach.
+use Rattle.std.specs.Prelude.{Ok, Result}
 use mathlib.Core.Path.{◌≡◌, refl, sym, ap, ap₂, ◌∙◌, subst}
 use mathlib.Core.Bool.{Bool, true, false, cond}
 use mathlib.Core.List.{List, [], ◌∷◌, ◌++◌, append-nil, append_assoc}
@@ -14,19 +15,18 @@ use Rattle.version.specs.Versions.{core_count}
 use Rattle.voices.specs.declared.Core.{Core}
 use Rattle.frames.specs.Turning.{Turns, frames}
 use Rattle.frames.proofs.Framing.{frames-long}
-use Rattle.sides.specs.Sides.{side_of, added_to, wrapping}
+use Rattle.sides.specs.Sides.{side_of, added, added_to, wrapping}
 use Rattle.sides.proofs.Added.{added-length}
 use Rattle.sides.proofs.Frames.{added-append}
 use Rattle.s3w2.specs.declared.Chip.{Chip}
-use Rattle.s3w2.specs.declared.Answer.{Answer}
-use Rattle.s3w2.specs.declared.Answer.TheVariants.{Done}
-use Rattle.s3w2.specs.Answers.{unless, answered, called}
+use Rattle.s3w2.specs.Answers.{Answer, Checked, unless, answered, called}
 use Rattle.s3w2.specs.Chips.{core_at, with_cores, core_queues}
 use Rattle.s3w2.specs.Refusals.{sound_refusal}
 use Rattle.chip_sound.specs.Sound.{silent_turns, core_frames, framed}
 use Rattle.chip_sound.specs.Mixing.{served, mixed_side, mixed_answered, mixed_left, mixed_right, mixed_i32_called}
 use Rattle.chip_sound.proofs.Chunks.{more-core, more-stems}
 use Rattle.log_lines.specs.declared.Line.{Line}
+use Rattle.log_lines.specs.declared.LineFault.{LineFault}
 use Rattle.log_lines.specs.declared.Line.TheVariants.{Clock}
 use Rattle.log_lines.specs.Lines.{is_bad}
 use Rattle.log_lines.specs.Texts.{frame_line, frame_lines, peak_of}
@@ -52,7 +52,7 @@ set-second (y ∷ l) m i x =
 module _ (plus : ℤ → ℤ → ℤ) (stems others : List ℤ) (hand : ℕ) (l m : List ℤ) where
   -- frames added to the first
   added-first : (n : ℕ) → n ≤ length l → added_to plus n stems others hand 0 (l ++ m) ≡ added_to plus n stems others hand 0 l ++ m
-  unfolding added_to
+  unfolding added
   added-first zero h = refl
   added-first (suc n) h =
       let x = added_to plus n stems others hand 0 l in
@@ -63,7 +63,7 @@ module _ (plus : ℤ → ℤ → ℤ) (stems others : List ℤ) (hand : ℕ) (l 
 
   -- and to the second
   added-second : (n : ℕ) → added_to plus n stems others hand (length l) (l ++ m) ≡ l ++ added_to plus n stems others hand 0 m
-  unfolding added_to
+  unfolding added
   added-second zero = refl
   added-second (suc n) =
       let x = added_to plus n stems others hand 0 m in
@@ -131,7 +131,7 @@ module _ (ram : List ℕ) (queues : List ℤ) where
         let z = length-replicate a (pos 0) in
         let e : 0 + a ≡ length x = omega (arith, side-long chip hand a) in
         ap₂ (λ (p q : List ℤ). added_to wrapping (a + b) p q hand 0 (zeros (a + b))) (turns-stems (has 0) chip.version ram (core_queues 0 queues) a b (core_at chip 0)) (turns-stems (has 1) chip.version ram (core_queues 1 queues) a b (core_at chip 1))
-        ∙ added-append s t o u hand a one (turns-long (has 0) chip.version ram (core_queues 0 queues) a (core_at chip 0)) (turns-long (has 1) chip.version ram (core_queues 1 queues) a (core_at chip 1)) wrapping 0 (zeros (a + b)) b
+        ∙ added-append s t o u hand a one (turns-long (has 0) chip.version ram (core_queues 0 queues) a (core_at chip 0)) (turns-long (has 1) chip.version ram (core_queues 1 queues) a (core_at chip 1)) (pos 0) wrapping 0 (zeros (a + b)) b
         ∙ ap (λ (l : List ℤ). added_to wrapping b t u hand (0 + a) (added_to wrapping a s o hand 0 l)) (sym (replicate-append-replicate a b (pos 0)))
         ∙ ap (added_to wrapping b t u hand (0 + a)) (added-first wrapping s o hand (zeros a) (zeros b) a (omega arith))
         ∙ ap (λ (k : ℕ). added_to wrapping b t u hand k (x ++ zeros b)) e
@@ -177,7 +177,7 @@ module _ (n : ℕ) (a c : List ℤ) (h : length a ≡ n) where
 
 -- ---- a `C` line by the frames that it sounds
 abbrev Accepts : World → Type 0
-Accepts w = sound_refusal w.player.chip (length w.ram) (length w.queues) ≡ Done
+Accepts w = sound_refusal w.player.chip (length w.ram) (length w.queues) ≡ Ok tt
 
 abbrev side_on : World → ℕ → ℕ → List ℤ
 side_on w hand n = side_by w.ram w.queues w.player.chip hand n
@@ -191,8 +191,8 @@ sounds w n =
       right = peak_of w.player.right (side_on w 1 n) n;
     }) w.ram w.queues
 
-called-chip : (r : Answer) (chip c : Chip) (a : Answer) → r ≡ Done → (called r chip (answered c a)).chip ≡ c
-called-chip r chip c a e = ap (λ (x : Answer). (called x chip (answered c a)).chip) e
+called-chip : (r : Checked) (chip c : Chip) (a : Answer) → r ≡ Ok tt → (called r chip (answered c a)).chip ≡ c
+called-chip r chip c a e = ap (λ (x : Checked). (called x chip (answered c a)).chip) e
 
 module _ (w : World) (n : ℕ) (h : n ≤ 1000) (ok : Accepts w) where
   abbrev chip : Chip
@@ -210,11 +210,11 @@ module _ (w : World) (n : ℕ) (h : n ≤ 1000) (ok : Accepts w) where
 
   left_is : left_side chip w.ram w.queues (silent n) (silent n) ≡ side_on w 0 n
   unfolding mixed_left
-  left_is = ap (λ (r : Answer). unless r (silent n) (mixed_side wrapping chip w.ram w.queues (silent n) (silent n) 0 (silent n))) ok ∙ side-is 0
+  left_is = ap (λ (r : Checked). unless r (silent n) (mixed_side wrapping chip w.ram w.queues (silent n) (silent n) 0 (silent n))) ok ∙ side-is 0
 
   right_is : right_side chip w.ram w.queues (silent n) (silent n) ≡ side_on w 1 n
   unfolding mixed_right
-  right_is = ap (λ (r : Answer). unless r (silent n) (mixed_side wrapping chip w.ram w.queues (silent n) (silent n) 1 (silent n))) ok ∙ side-is 1
+  right_is = ap (λ (r : Checked). unless r (silent n) (mixed_side wrapping chip w.ram w.queues (silent n) (silent n) 1 (silent n))) ok ∙ side-is 1
 
   chip-is : (mixed_i32_called chip w.ram w.queues (silent n) (silent n)).chip ≡ framed chip w.ram w.queues n
   unfolding mixed_answered
@@ -223,11 +223,11 @@ module _ (w : World) (n : ℕ) (h : n ≤ 1000) (ok : Accepts w) where
   peak-is : (before hand : ℕ) (side : List ℤ) → side ≡ side_on w hand n → peak_of before side (length side) ≡ peak_of before (side_on w hand n) n
   peak-is before hand side e = ap (λ (x : List ℤ). peak_of before x (length x)) e ∙ ap (peak_of before (side_on w hand n)) (side-long w.ram w.queues chip hand n)
 
-  after_is : after_line w (Clock n) ≡ sounds w n
+  after_is : after_line w (Ok (Clock n)) ≡ sounds w n
   unfolding effect_of clocked_player
   after_is = λ i. world (record { chip = chip-is i; left = peak-is w.player.left 0 _ left_is i; right = peak-is w.player.right 1 _ right_is i }) w.ram w.queues
 
-  printed-is : printed w (Clock n) ≡ frame_lines (side_on w 0 n) (side_on w 1 n) n
+  printed-is : printed w (Ok (Clock n)) ≡ frame_lines (side_on w 0 n) (side_on w 1 n) n
   unfolding effect_of clocked_text
   printed-is =
       let e : min (length (side_on w 0 n)) (length (side_on w 1 n)) ≡ n = omega (arith, side-long w.ram w.queues chip 0 n, side-long w.ram w.queues chip 1 n) in
@@ -235,14 +235,14 @@ module _ (w : World) (n : ℕ) (h : n ≤ 1000) (ok : Accepts w) where
 
 -- ---- a frames and then b
 pub record Splits (w : World) (a b : ℕ) : Type 0 where
-  pub after : after_line w (Clock (a + b)) ≡ after_line (after_line w (Clock a)) (Clock b)
-  pub text : printed w (Clock (a + b)) ≡ printed w (Clock a) ++ printed (after_line w (Clock a)) (Clock b)
+  pub after : after_line w (Ok (Clock (a + b))) ≡ after_line (after_line w (Ok (Clock a))) (Ok (Clock b))
+  pub text : printed w (Ok (Clock (a + b))) ≡ printed w (Ok (Clock a)) ++ printed (after_line w (Ok (Clock a))) (Ok (Clock b))
 
-module _ (w : World) (a b : ℕ) (h : a + b ≤ 1000) (ok : Accepts w) (next : Accepts (after_line w (Clock a))) where
+module _ (w : World) (a b : ℕ) (h : a + b ≤ 1000) (ok : Accepts w) (next : Accepts (after_line w (Ok (Clock a)))) where
   abbrev v : World
   v = sounds w a
 
-  is-v : after_line w (Clock a) ≡ v
+  is-v : after_line w (Ok (Clock a)) ≡ v
   is-v = after_is w a (omega arith) ok
 
   ok-v : Accepts v
@@ -267,10 +267,10 @@ module _ (w : World) (a b : ℕ) (h : a + b ≤ 1000) (ok : Accepts w) (next : A
 
   splits : Splits w a b
   splits = record {
-    after = after_is w (a + b) h ok ∙ world-joins ∙ sym (ap (λ (u : World). after_line u (Clock b)) is-v ∙ after_is v b (omega arith) ok-v);
+    after = after_is w (a + b) h ok ∙ world-joins ∙ sym (ap (λ (u : World). after_line u (Ok (Clock b))) is-v ∙ after_is v b (omega arith) ok-v);
     text =
         printed-is w (a + b) h ok ∙ text-joins
-        ∙ sym (ap₂ (λ (x y : List ℕ). x ++ y) (printed-is w a (omega arith) ok) (ap (λ (u : World). printed u (Clock b)) is-v ∙ printed-is v b (omega arith) ok-v));
+        ∙ sym (ap₂ (λ (x y : List ℕ). x ++ y) (printed-is w a (omega arith) ok) (ap (λ (u : World). printed u (Ok (Clock b))) is-v ∙ printed-is v b (omega arith) ok-v));
   }
 
 -- ---- THE SPLIT, of worlds that lines can reach: so many frames in one line or in two
@@ -280,10 +280,10 @@ Held w = HeldMachine (machine_of w)
 accepts : (w : World) → Held w → Accepts w
 accepts w h = sound_none w.player.chip w.ram w.queues h
 
-pub held-clock : (w : World) (n : ℕ) → 1 ≤ n → n ≤ clock_most → Held w → Held (after_line w (Clock n))
+pub held-clock : (w : World) (n : ℕ) → 1 ≤ n → n ≤ clock_most → Held w → Held (after_line w (Ok (Clock n)))
 held-clock w n low high h =
     let e = clock-line n low high in
-    subst (λ (l : Line). Held (after_line w l)) e (held-line (clock_line n) w h (ap is_bad e))
+    subst (λ (l : Result Line LineFault). Held (after_line w l)) e (held-line (clock_line n) w h (ap is_bad e))
 
 pub clock-splits : (b : ℕ) (w : World) (a : ℕ) → 1 ≤ a → 1 ≤ b → a + b ≤ clock_most → Held w → Splits w a b
-clock-splits b w a low some high h = splits w a b high (accepts w h) (accepts (after_line w (Clock a)) (held-clock w a low (omega arith) h))
+clock-splits b w a low some high h = splits w a b high (accepts w h) (accepts (after_line w (Ok (Clock a))) (held-clock w a low (omega arith) h))

@@ -1,4 +1,5 @@
 -- A turn prints its part of the log, and leaves the rest. Assumes nothing.
+use Rattle.std.specs.Prelude.{Ok, Some, None, Err}
 use mathlib.Core.Path.{◌≡◌, refl, sym, ap, ap₂, ◌∙◌, subst}
 use mathlib.Core.List.{List, [], ◌∷◌, ◌++◌, append_assoc, append-nil}
 use Prim.Native.Nat.{ℕ, suc, ◌+◌, ◌-◌, ◌≤◌, ◌<◌}
@@ -9,20 +10,20 @@ use lib.Seq.{sets, sets-eq, take-append_seam, drop-append_seam, length-sets}
 use borrow.Author.Tests.{eqb-true, eqb-false, ltb-false, leb-false}
 use Rattle.num.specs.Lists.{part}
 use Rattle.num.proofs.Choice.{cond-by, never}
-use Rattle.log_player.specs.declared.Next.{Next}
-use Rattle.log_player.specs.declared.Next.TheVariants.{Line, Rest, Bad, Refused}
+use Rattle.log_player.specs.Steps.{Next}
+use Rattle.log_player.specs.declared.Stop.TheVariants.{Bad, Refused}
 use Rattle.log_player.specs.Worlds.{World}
 use Rattle.log_player.specs.Steps.{first_line}
-use Rattle.log_player.specs.Runs.{is_line, Run, refused_by, log_run}
+use Rattle.s3w2.specs.Answers.{Checked}
+use Rattle.log_player.specs.Runs.{Spot, spot, is_line, Run, run_from, refusal_in, unless_refused, log_run}
 use Rattle.log_player.proofs.Stops.{first_short}
 use Rattle.plain_chip.specs.Lists.{Every}
 use Rattle.log_resume.specs.Cuts.{Playable, half, played}
-use Rattle.timed_log.specs.declared.TimedLine.{TimedLine}
-use Rattle.timed_log.specs.declared.TimedLine.TheVariants.{Due, Malformed, Unmapped, Late, Crowded}
+use Rattle.log_lines.specs.declared.LineFault.{LineFault}
+use Rattle.log_lines.specs.declared.LineFault.TheVariants.{Malformed}
+use Rattle.log_lines.specs.Lines.{number_of}
 use Rattle.timed_log.specs.declared.Clockwork.{Clockwork}
-use Rattle.timed_log.specs.declared.Ahead.{Ahead}
-use Rattle.timed_log.specs.declared.Ahead.TheVariants as ahead
-use Rattle.timed_log.specs.Lines.{longest, due_of, bad_number, judged, placed, next_due}
+use Rattle.timed_log.specs.Lines.{TimedLine, Ahead, longest, due_of, judged, placed, next_due}
 use Rattle.timed_log.specs.Unrolls.{Reach, reach, unroll_from}
 use Rattle.timed_log.specs.Turns.{Stand, stand, Turn, turn, left_of, goes_on, played_as, played_on, next_at, told_as, told, stands_at, written_out, turn_over}
 use Rattle.timed_log.proofs.Found.{first-split}
@@ -56,10 +57,10 @@ pub record Rests (s : Stand) (lines : List (List ℕ)) (input : List ℕ) (t : T
   pub unended : length (first_line (drop t.stand.place input)) ≡ length (drop t.stand.place input)
 
 abbrev pub After : Stand → List (List ℕ) → List ℕ → Turn → Next → Type 0
-After s lines input t (Line place) = Goes s lines input t
-After s lines input t Rest = Rests s lines input t
-After s lines input t (Bad why) = (more : List ℕ) → left_over s lines input more ≡ t.text
-After s lines input t (Refused why) = Unit {0}
+After s lines input t (Ok (Some place)) = Goes s lines input t
+After s lines input t (Ok None) = Rests s lines input t
+After s lines input t (Err (Bad why)) = (more : List ℕ) → left_over s lines input more ≡ t.text
+After s lines input t (Err (Refused why)) = Unit {0}
 
 -- ---- some lines played
 left_split : (a b : List (List ℕ)) (w : World) (frames : ℕ) (s : Score) → left_text w (a ++ b) frames s ≡ sounded w a ++ left_text (played w a) b frames s
@@ -74,7 +75,7 @@ every-behind : (a b : List (List ℕ)) → Every Playable (a ++ b) → Every Pla
 every-behind [] b f = f
 every-behind (line ∷ a) b f = every-behind a b f.1
 
-never-rest : {A : Type 0} (why : ℕ) → Bad why ≡ Rest → A
+never-rest : {A : Type 0} (why : LineFault) → ◌≡◌ {A = Next} (Err (Bad why)) (Ok None) → A
 never-rest why e = absurd (let z : ◌≡◌ {A = ℕ} 0 1 = cc in omega arith)
 
 part_length : (s : Stand) → s.end ≤ length s.plain → length (part s.plain 0 (s.end - 0)) ≡ s.end
@@ -85,32 +86,29 @@ text-there : (plain text : List ℕ) → length text ≤ length plain → part (
 text-there plain text h = ap (λ (i : ℕ). take i (sets plain 0 text)) (let e : length text - 0 ≡ length text = omega arith in e) ∙ ap (take (length text)) (sets-eq text plain 0 (omega arith)) ∙ take-append_seam text (drop (0 + length text) plain)
 
 -- ---- where no line is written out
-next-rest : (k : Clockwork) (rest : List ℕ) (at : ℕ) → next_due k rest at ≡ ahead.Rest → length (first_line rest) ≡ length rest
+next-rest : (k : Clockwork) (rest : List ℕ) (at : ℕ) → next_due k rest at ≡ Ok None → length (first_line rest) ≡ length rest
 unfolding next_due
-next-rest k rest at = cond-by (λ (a : Ahead). a ≡ ahead.Rest → length (first_line rest) ≡ length rest) (eqb (length (first_line rest)) (length rest)) _ _
+next-rest k rest at = cond-by (λ (a : Ahead). a ≡ Ok None → length (first_line rest) ≡ length rest) (eqb (length (first_line rest)) (length rest)) _ _
     (λ t e. eqb-true (length (first_line rest)) (length rest) t) (λ t. line (judged k (due_of (first_line rest))))
   where
-    line : (t : TimedLine) → placed at (length (first_line rest)) t ≡ ahead.Rest → length (first_line rest) ≡ length rest
-    line (Due stamp from) e = absurd (let z : ◌≡◌ {A = ℕ} 0 1 = cc in omega arith)
-    line Malformed e = absurd (let z : ◌≡◌ {A = ℕ} 0 1 = cc in omega arith)
-    line Unmapped e = absurd (let z : ◌≡◌ {A = ℕ} 0 1 = cc in omega arith)
-    line Late e = absurd (let z : ◌≡◌ {A = ℕ} 0 1 = cc in omega arith)
-    line Crowded e = absurd (let z : ◌≡◌ {A = ℕ} 0 1 = cc in omega arith)
+    line : (t : TimedLine) → placed at (length (first_line rest)) t ≡ Ok None → length (first_line rest) ≡ length rest
+    line (Ok due) e = absurd (let z : ◌≡◌ {A = ℕ} 0 1 = cc in omega arith)
+    line (Err why) e = absurd (let z : ◌≡◌ {A = ℕ} 0 1 = cc in omega arith)
 
-next-bad : (k : Clockwork) (rest : List ℕ) (at why : ℕ) → next_due k rest at ≡ ahead.Bad why → (n : ℕ) (more : List ℕ) → scored k n [] (rest ++ more) ≡ ends k (stop n why)
+next-bad : (k : Clockwork) (rest : List ℕ) (at : ℕ) (why : LineFault) → next_due k rest at ≡ Err why → (n : ℕ) (more : List ℕ) → scored k n [] (rest ++ more) ≡ ends k (stop n (number_of why))
 unfolding next_due
 next-bad k rest at why = cond-by Goal (eqb (length (first_line rest)) (length rest)) _ _
     (λ t. cond-by Goal (leb (length rest) longest) _ _ (λ u e. absurd (let z : ◌≡◌ {A = ℕ} 0 1 = cc in omega arith))
-    (λ u e n more. score-long rest more k n (open-all rest (eqb-true (length (first_line rest)) (length rest) t)) (leb-false (length rest) longest u) ∙ ap (λ (y : ℕ). ends k (stop n y)) (why-is (bad_number Malformed) e)))
+    (λ u e n more. score-long rest more k n (open-all rest (eqb-true (length (first_line rest)) (length rest) t)) (leb-false (length rest) longest u) ∙ ap (λ (y : LineFault). ends k (stop n (number_of y))) (why-is Malformed e)))
     (λ t. line (less (eqb-false (length (first_line rest)) (length rest) t) (first_short rest)) (judged k (due_of (first_line rest))) refl)
   where
     Goal : Ahead → Type 0
-    Goal a = a ≡ ahead.Bad why → (n : ℕ) (more : List ℕ) → scored k n [] (rest ++ more) ≡ ends k (stop n why)
+    Goal a = a ≡ Err why → (n : ℕ) (more : List ℕ) → scored k n [] (rest ++ more) ≡ ends k (stop n (number_of why))
 
     less : {a b : ℕ} → (a ≡ b → ⊥) → a ≤ b → a < b
     less n h = omega arith
 
-    why-is : (x : ℕ) → ahead.Bad x ≡ ahead.Bad why → x ≡ why
+    why-is : (x : LineFault) → ◌≡◌ {A = Ahead} (Err x) (Err why) → x ≡ why
     why-is x e = cc
 
     scored-as : length (first_line rest) < length rest → (n : ℕ) (more : List ℕ) (t : TimedLine) → judged k (due_of (first_line rest)) ≡ t
@@ -121,11 +119,8 @@ next-bad k rest at why = cond-by Goal (eqb (length (first_line rest)) (length re
         ∙ ap (line_scored k n (first_line rest) (λ (a : Clockwork). scored a (suc n) [] (drop (suc (length (first_line rest))) rest ++ more))) e
 
     line : length (first_line rest) < length rest → (t : TimedLine) → judged k (due_of (first_line rest)) ≡ t → Goal (placed at (length (first_line rest)) t)
-    line h (Due stamp from) j = λ e. absurd (let z : ◌≡◌ {A = ℕ} 0 1 = cc in omega arith)
-    line h Malformed j = λ e n more. scored-as h n more Malformed j ∙ ap (λ (y : ℕ). ends k (stop n y)) (why-is (bad_number Malformed) e)
-    line h Unmapped j = λ e n more. scored-as h n more Unmapped j ∙ ap (λ (y : ℕ). ends k (stop n y)) (why-is (bad_number Unmapped) e)
-    line h Late j = λ e n more. scored-as h n more Late j ∙ ap (λ (y : ℕ). ends k (stop n y)) (why-is (bad_number Late) e)
-    line h Crowded j = λ e n more. scored-as h n more Crowded j ∙ ap (λ (y : ℕ). ends k (stop n y)) (why-is (bad_number Crowded) e)
+    line h (Ok due) j = λ e. absurd (let z : ◌≡◌ {A = ℕ} 0 1 = cc in omega arith)
+    line h (Err fault) j = λ e n more. scored-as h n more (Err fault) j ∙ ap (λ (y : LineFault). ends k (stop n (number_of y))) (why-is fault e)
 
 module _ (room : ℕ) (input : List ℕ) (s : Stand) (lines : List (List ℕ)) (h : Waits s lines) where
   abbrev text : List ℕ
@@ -151,7 +146,7 @@ module _ (room : ℕ) (input : List ℕ) (s : Stand) (lines : List (List ℕ)) (
         left = λ more. split more ∙ ap (λ (l : List (List ℕ)). r.text ++ left_text r.world l s.clock.frames (scored s.clock s.number [] (drop s.place input ++ more))) e;
       }
 
-      not-all : (place : ℕ) → Goes s lines input (turn (stand r.world s.clock s.plain r.from s.end s.place s.number) (goes_on s.place (Line place)) r.text)
+      not-all : (place : ℕ) → Goes s lines input (turn (stand r.world s.clock s.plain r.from s.end s.place s.number) (goes_on s.place (Ok (Some place))) r.text)
       not-all place = record {
         waiting = t.left;
         waits = record {
@@ -165,18 +160,23 @@ module _ (room : ℕ) (input : List ℕ) (s : Stand) (lines : List (List ℕ)) (
       }
 
       go : (next : Next) → r.next ≡ next → Where t.left r.next → After s lines input (turn (stand r.world s.clock s.plain (left_of s.end r.from next) s.end s.place s.number) (goes_on s.place next) r.text) (goes_on s.place next)
-      go (Line place) e w = not-all place
-      go Rest e (all l q) = all_done l Rest refl
-      go Rest e (some place q) = never (sym (ap is_line (sym e ∙ q)))
-      go (Bad why) e (all l q) = never-rest why (sym e ∙ q)
-      go (Bad why) e (some place q) = never (sym (ap is_line (sym e ∙ q)))
-      go (Refused why) e w = tt
+      go (Ok (Some place)) e w = not-all place
+      go (Ok None) e (all l q) = all_done l (Ok None) refl
+      go (Ok None) e (some place q) = never (sym (ap is_line (sym e ∙ q)))
+      go (Err (Bad why)) e (all l q) = never-rest why (sym e ∙ q)
+      go (Err (Bad why)) e (some place q) = never (sym (ap is_line (sym e ∙ q)))
+      go (Err (Refused why)) e w = tt
 
   played-after : After s lines input (played_on room s) (played_on room s).next
   unfolding played_on log_run
-  played-after =
-      cond-by (λ (r : Run). After s lines input (played_as s r) (played_as s r).next) (eqb (refused_by s.world) 0) _ _
-      (λ e. ran _ (stops room text lines s.world 1 s.from [] h.playable there)) (λ e. tt)
+  played-after = go (refusal_in s.world)
+    where
+      here : Spot
+      here = spot s.world 1 s.from []
+
+      go : (c : Checked) → After s lines input (played_as s (unless_refused c here (run_from room text here))) (played_as s (unless_refused c here (run_from room text here))).next
+      go (Ok x) = ran _ (stops room text lines s.world 1 s.from [] h.playable there)
+      go (Err why) = tt
 
   -- ---- nothing is waiting
   module _ (k : s.end ≤ s.from) where
@@ -199,9 +199,9 @@ module _ (room : ℕ) (input : List ℕ) (s : Stand) (lines : List (List ℕ)) (
     told-after = go (next_due s.clock (drop s.place input) s.place) refl
       where
         go : (a : Ahead) → next_due s.clock (drop s.place input) s.place ≡ a → After s lines input (told_as s (next_at s.place a)) (next_at s.place a)
-        go (ahead.Line stamp from to) e = record { waiting = []; waits = nothing s.plain; left = empty }
-        go ahead.Rest e = record { goes = record { waiting = []; waits = nothing s.plain; left = empty }; none = refl; unended = next-rest s.clock (drop s.place input) s.place e }
-        go (ahead.Bad why) e = λ more. empty more ∙ ap (left_text s.world [] s.clock.frames) (next-bad s.clock (drop s.place input) s.place why e s.number more)
+        go (Ok (Some due)) e = record { waiting = []; waits = nothing s.plain; left = empty }
+        go (Ok None) e = record { goes = record { waiting = []; waits = nothing s.plain; left = empty }; none = refl; unended = next-rest s.clock (drop s.place input) s.place e }
+        go (Err why) e = λ more. empty more ∙ ap (left_text s.world [] s.clock.frames) (next-bad s.clock (drop s.place input) s.place why e s.number more)
 
     -- lines are written out
     abbrev at : Reach
@@ -210,7 +210,7 @@ module _ (room : ℕ) (input : List ℕ) (s : Stand) (lines : List (List ℕ)) (
     abbrev u : Reach
     u = unroll_from (length s.plain) input at
 
-    out-after : Goes s lines input (turn (stands_at s u) (Line u.from) [])
+    out-after : Goes s lines input (turn (stands_at s u) (Ok (Some u.from)) [])
     out-after =
         let w = unrolls input (length s.plain) at in
         let short = unroll-within (length s.plain) input at (omega arith) in

@@ -1,4 +1,5 @@
 -- What a run writes out, and what is left of the log behind it, print what the log prints. Assumes nothing.
+use Rattle.std.specs.Prelude.{Ok, Some, None, Err}
 use mathlib.Core.Path.{◌≡◌, refl, sym, ap, ap₂, ◌∙◌}
 use mathlib.Core.Bool.{Bool, true, false}
 use mathlib.Core.List.{List, [], ◌∷◌, ◌++◌, append_assoc, append-nil}
@@ -14,8 +15,7 @@ use Rattle.log_player.specs.Steps.{first_line}
 use Rattle.log_player.specs.Worlds.{World}
 use Rattle.plain_chip.specs.Lists.{Every}
 use Rattle.log_resume.specs.Cuts.{Playable, half}
-use Rattle.timed_log.specs.declared.Ahead.{Ahead}
-use Rattle.timed_log.specs.declared.Ahead.TheVariants.{Line, Rest, Bad}
+use Rattle.timed_log.specs.Lines.{line_ahead, Ahead}
 use Rattle.timed_log.specs.Unrolled.{clock_most, clock_line, applied}
 use Rattle.timed_log.specs.Unrolls.{has_place, Reach, reach, gap_text, reach_behind, ahead_of, on_line, unroll_on, unroll_from}
 use Rattle.timed_log.proofs.Puts as puts
@@ -57,7 +57,7 @@ module _ (input : List ℕ) where
     left = λ more w waiting. a.left more w waiting ∙ b.left more w (waiting ++ a.lines) ∙ ap (left_at r more w) (append_assoc waiting a.lines b.lines);
   }
 
-  written_step : (s : Reach) (stamp from to : ℕ) → ahead_of input s ≡ Line stamp from to → Written s (reach_behind input s stamp from to)
+  written_step : (s : Reach) (stamp from to : ℕ) → ahead_of input s ≡ Ok (Some (line_ahead stamp from to)) → Written s (reach_behind input s stamp from to)
   unfolding reach_behind
   written_step s stamp from to e =
       cond-by (Written s) (ltb clock_most (stamp - s.clock.frames)) _ _
@@ -102,9 +102,10 @@ module _ (input : List ℕ) where
   written_on room (suc n) s = cond-by (Written s) (has_place room (length s.text) s.number) _ _ (λ a. go (ahead_of input s) refl (λ t. written_on room n t)) (λ a. written_none s)
     where
       go : (x : Ahead) → ahead_of input s ≡ x → ((t : Reach) → Written t (unroll_on room input n t)) → Written s (on_line input s (unroll_on room input n) x)
-      go (Line stamp from to) e ih = written_both s (reach_behind input s stamp from to) _ (written_step s stamp from to e) (ih (reach_behind input s stamp from to))
-      go Rest e ih = written_none s
-      go (Bad why) e ih = written_none s
+      go (Ok (Some due)) e ih =
+          written_both s (reach_behind input s due.stamp due.from due.to) _ (written_step s due.stamp due.from due.to e) (ih (reach_behind input s due.stamp due.from due.to))
+      go (Ok None) e ih = written_none s
+      go (Err why) e ih = written_none s
 
   pub unrolls : (room : ℕ) (s : Reach) → Written s (unroll_from room input s)
   unfolding unroll_from

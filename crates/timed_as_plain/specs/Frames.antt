@@ -1,7 +1,8 @@
 -- A timed log frame by frame: before each frame the lines that are due at it, in order.
-use Rattle.std.specs.Prelude.{◌≡◌, cond, List, [], ◌∷◌, ◌++◌, ℕ, zero, suc, ◌+◌, ◌-◌, eqb}
+use Rattle.std.specs.Prelude.{Result, Ok, Err, ◌≡◌, cond, List, [], ◌∷◌, ◌++◌, ℕ, zero, suc, ◌+◌, ◌-◌, eqb}
 use Rattle.log_lines.specs.declared.Line.{Line}
-use Rattle.log_lines.specs.declared.Line.TheVariants.{Write, WriteRam, Read, Peek, Clock, Version, Malformed, Unmapped}
+use Rattle.log_lines.specs.declared.Line.TheVariants.{Write, WriteRam, Read, Peek, Clock, Version}
+use Rattle.log_lines.specs.declared.LineFault.{LineFault}
 use Rattle.log_lines.specs.Lines.{parsed_line}
 use Rattle.log_player.specs.Worlds.{World}
 use Rattle.log_player.specs.Applied.{after_line, printed}
@@ -19,15 +20,14 @@ last_stamp frames [] = frames
 last_stamp frames (d ∷ dues) = last_stamp d.stamp dues
 
 -- the frames that lines sound
-abbrev pub frames_by : Line → ℕ
-frames_by (Write a v) = 0
-frames_by (WriteRam a v) = 0
-frames_by (Read a) = 0
-frames_by (Peek a) = 0
-frames_by (Clock n) = n
-frames_by (Version v) = 0
-frames_by Malformed = 0
-frames_by Unmapped = 0
+abbrev pub frames_by : Result Line LineFault → ℕ
+frames_by (Ok (Write a v)) = 0
+frames_by (Ok (WriteRam a v)) = 0
+frames_by (Ok (Read a)) = 0
+frames_by (Ok (Peek a)) = 0
+frames_by (Ok (Clock n)) = n
+frames_by (Ok (Version v)) = 0
+frames_by (Err why) = 0
 
 abbrev pub frames_in : List (List ℕ) → ℕ
 frames_in [] = 0
@@ -36,13 +36,13 @@ frames_in (line ∷ lines) = frames_by (parsed_line line) + frames_in lines
 -- ---- the request's own words: so many frames from one on, before each the lines that are due at it, in order; the world, and the text
 unfoldable pub frames_played : World → ℕ → ℕ → List DueLine → World
 frames_played w frame zero dues = w
-frames_played w frame (suc n) dues = frames_played (after_line (played w (due_at frame dues)) (Clock 1)) (suc frame) n dues
+frames_played w frame (suc n) dues = frames_played (after_line (played w (due_at frame dues)) (Ok (Clock 1))) (suc frame) n dues
 
 unfoldable pub by_frames : World → ℕ → ℕ → List DueLine → List ℕ
 by_frames w frame zero dues = []
 by_frames w frame (suc n) dues =
     sounded w (due_at frame dues)
-    ++ (printed (played w (due_at frame dues)) (Clock 1) ++ by_frames (after_line (played w (due_at frame dues)) (Clock 1)) (suc frame) n dues)
+    ++ (printed (played w (due_at frame dues)) (Ok (Clock 1)) ++ by_frames (after_line (played w (due_at frame dues)) (Ok (Clock 1))) (suc frame) n dues)
 
 -- the lines of a log with its gaps are the frames below its last stamp, each behind its lines, and then the lines of that stamp
 pub record ByFrames (w : World) (frame : ℕ) (dues : List DueLine) : Type 0 where

@@ -1,15 +1,14 @@
 -- A timed log: what is due in it, the plain log that it is, and what it prints.
-use Rattle.std.specs.Prelude.{cond, List, [], ◌∷◌, ◌++◌, ℕ, suc, ◌-◌, ◌/◌, ◌%◌, eqb, ltb, length, drop, replicate}
-use Rattle.log_lines.specs.Lines.{parsed_line}
+use Rattle.std.specs.Prelude.{Ok, Err, cond, List, [], ◌∷◌, ◌++◌, ℕ, suc, ◌-◌, ◌/◌, ◌%◌, eqb, ltb, length, drop, replicate}
+use Rattle.log_lines.specs.declared.LineFault.TheVariants.{Malformed}
+use Rattle.log_lines.specs.Lines.{parsed_line, number_of}
 use Rattle.log_lines.specs.Texts.{bad_line}
 use Rattle.log_player.specs.Worlds.{World, fresh_world}
 use Rattle.log_player.specs.Applied.{after_line, printed}
 use Rattle.log_player.specs.Logs.{end_text}
 use Rattle.log_resume.specs.Cuts.{half, played}
-use Rattle.timed_log.specs.declared.TimedLine.{TimedLine}
-use Rattle.timed_log.specs.declared.TimedLine.TheVariants.{Due, Malformed, Unmapped, Late, Crowded}
 use Rattle.timed_log.specs.declared.Clockwork.{Clockwork}
-use Rattle.timed_log.specs.Lines.{due_of, bad_number, judged}
+use Rattle.timed_log.specs.Lines.{TimedLine, due_of, judged}
 use Rattle.timed_log.specs.Unrolled.{clock_most, clock_line, no_frames, applied}
 
 -- ---- what is due: a plain line, and the frame before which it is played
@@ -39,15 +38,12 @@ due_before d more = record { dues = d ∷ more.dues; clock = more.clock; end = m
 
 -- a line, and what follows it
 abbrev pub line_scored : Clockwork → ℕ → List ℕ → (Clockwork → Score) → TimedLine → Score
-line_scored clock number line more (Due stamp from) = due_before (due_line stamp (drop from line)) (more (applied clock stamp))
-line_scored clock number line more Malformed = ends clock (stop number (bad_number Malformed))
-line_scored clock number line more Unmapped = ends clock (stop number (bad_number Unmapped))
-line_scored clock number line more Late = ends clock (stop number (bad_number Late))
-line_scored clock number line more Crowded = ends clock (stop number (bad_number Crowded))
+line_scored clock number line more (Ok due) = due_before (due_line due.stamp (drop due.from line)) (more (applied clock due.stamp))
+line_scored clock number line more (Err why) = ends clock (stop number (number_of why))
 
 -- the rest of a log, from line `number` on, of which the bytes `line` were read already
 unfoldable pub scored : Clockwork → ℕ → List ℕ → List ℕ → Score
-scored clock number line [] = ends clock (cond (eqb (length line) 0) over (stop number (bad_number Malformed)))
+scored clock number line [] = ends clock (cond (eqb (length line) 0) over (stop number (number_of Malformed)))
 scored clock number line (c ∷ cs) =
     cond (eqb c 10)
     (line_scored clock number line (λ (after : Clockwork). scored after (suc number) [] cs) (judged clock (due_of line)))

@@ -1,4 +1,5 @@
 -- A line that was found in an input, and what of it is written out. Assumes nothing.
+use Rattle.std.specs.Prelude.{Ok, Some, None, Err}
 use mathlib.Core.Path.{◌≡◌, refl, sym, ap, ◌∙◌, subst}
 use mathlib.Core.Bool.{Bool, true, false}
 use mathlib.Core.List.{List, [], ◌∷◌, ◌++◌}
@@ -11,16 +12,14 @@ use lib.Seq.{drop-drop, drop-append-le, take-append-add}
 use borrow.Author.Tests.{eqb-true, eqb-false}
 use Rattle.num.specs.Lists.{part}
 use Rattle.num.proofs.Choice.{cond-by, never}
+use Rattle.log_lines.specs.declared.LineFault.{LineFault}
 use Rattle.log_lines.specs.Lines.{is_bad}
 use Rattle.log_lines.proofs.Long.{long-line}
 use Rattle.log_player.specs.Steps.{first_line}
 use Rattle.log_player.proofs.Stops.{first_short}
-use Rattle.timed_log.specs.declared.TimedLine.{TimedLine}
-use Rattle.timed_log.specs.declared.TimedLine.TheVariants.{Due, Malformed, Unmapped, Late, Crowded}
+use Rattle.timed_log.specs.declared.LineAhead.{LineAhead}
 use Rattle.timed_log.specs.declared.Clockwork.{Clockwork}
-use Rattle.timed_log.specs.declared.Ahead.{Ahead}
-use Rattle.timed_log.specs.declared.Ahead.TheVariants.{Line, Rest, Bad}
-use Rattle.timed_log.specs.Lines.{longest, due_of, judged, placed, next_due}
+use Rattle.timed_log.specs.Lines.{line_ahead, TimedLine, Ahead, longest, due_of, judged, placed, next_due}
 use Rattle.timed_log.proofs.Judging.{IsDue, due-is, IsTaken, taken_is}
 
 -- a line with its byte 10 stands before what follows it
@@ -47,20 +46,20 @@ pub record Found (k : Clockwork) (rest : List ℕ) (at stamp from to : ℕ) : Ty
 
 module _ (k : Clockwork) (rest : List ℕ) (at stamp from to : ℕ) where
   abbrev If : Ahead → Type 0
-  If a = a ≡ Line stamp from to → Found k rest at stamp from to
+  If a = a ≡ Ok (Some (line_ahead stamp from to)) → Found k rest at stamp from to
 
   abbrev tell : Ahead → Bool
-  tell (Line s f t) = true
-  tell Rest = false
-  tell (Bad why) = false
+  tell (Ok (Some line)) = true
+  tell (Ok None) = false
+  tell (Err why) = false
 
-  rested : Rest ≡ Line stamp from to → Found k rest at stamp from to
+  rested : ◌≡◌ {A = Ahead} (Ok None) (Ok (Some (line_ahead stamp from to))) → Found k rest at stamp from to
   rested e = never (sym (ap tell e))
 
-  refused : (why : ℕ) → Bad why ≡ Line stamp from to → Found k rest at stamp from to
+  refused : (why : LineFault) → ◌≡◌ {A = Ahead} (Err why) (Ok (Some (line_ahead stamp from to))) → Found k rest at stamp from to
   refused why e = never (sym (ap tell e))
 
-  pub found-is : next_due k rest at ≡ Line stamp from to → Found k rest at stamp from to
+  pub found-is : next_due k rest at ≡ Ok (Some (line_ahead stamp from to)) → Found k rest at stamp from to
   unfolding next_due
   found-is =
       cond-by If (eqb (length (first_line rest)) (length rest)) _ _
@@ -71,15 +70,14 @@ module _ (k : Clockwork) (rest : List ℕ) (at stamp from to : ℕ) where
       less n h = omega arith
 
       line : length (first_line rest) < length rest → (t : TimedLine) → judged k (due_of (first_line rest)) ≡ t → If (placed at (length (first_line rest)) t)
-      line h Malformed e = refused _
-      line h Unmapped e = refused _
-      line h Late e = refused _
-      line h Crowded e = refused _
-      line h (Due s f) e = λ q.
-          let a : s ≡ stamp = cc in
-          let b : at + f ≡ from = cc in
-          let d : at + length (first_line rest) + 1 ≡ to = cc in
-          let t : IsTaken k (due_of (first_line rest)) stamp f = subst (λ (n : ℕ). IsTaken k (due_of (first_line rest)) n f) a (taken_is k s f (due_of (first_line rest)) e) in
+      line h (Err why) e = refused _
+      line h (Ok due) e = λ q.
+          let f : ℕ = due.from in
+          let same : line_ahead due.stamp (at + due.from) (at + length (first_line rest) + 1) ≡ line_ahead stamp from to = cc in
+          let a : due.stamp ≡ stamp = ap (λ (x : LineAhead). x.stamp) same in
+          let b : at + f ≡ from = ap (λ (x : LineAhead). x.from) same in
+          let d : at + length (first_line rest) + 1 ≡ to = ap (λ (x : LineAhead). x.to) same in
+          let t : IsTaken k (due_of (first_line rest)) stamp f = subst (λ (n : ℕ). IsTaken k (due_of (first_line rest)) n f) a (taken_is k due.stamp f (due_of (first_line rest)) e) in
           record { begin = f; taken = t; due = due-is (first_line rest) stamp f t.due; starts = sym b; behind = sym d; closed = h }
 
 -- ---- what is written out of it

@@ -4,11 +4,12 @@ use mathlib.Core.List.{List, [], ◌∷◌, ◌++◌}
 use Prim.Native.Nat.{ℕ, ◌+◌, ◌-◌, ◌≤◌, ◌<◌}
 use native.Mathlib.Numerals.{add-one}
 use native.Mathlib.Omega.{arith}
-use lib.ListN.{length, get_or, set, take}
-use lib.Seq.{sets, length-sets, length-take-le, take_all}
+use lib.ListN.{length}
+use borrow.Rule.Slice.PartMut.{put_mid}
 use borrow.Author.Tests.{eq-eqb, ne_eqb}
 use Rattle.decimal.specs.Written.{Put, decimal}
-use Rattle.decimal.proofs.Writing.{put-append, put_next}
+use Rattle.decimal.proofs.Writing.{put-append}
+use Rattle.voices.proofs.Parts.{put-part}
 use Rattle.timed_log.specs.declared.Clockwork.{Clockwork}
 use Rattle.timed_log.specs.Lines.{frame_most, due_already}
 use Rattle.timed_log.specs.Unrolled.{clock_line, clock_text, clockwork, applied}
@@ -47,16 +48,6 @@ module _ (k : Clockwork) (stamp : ℕ) where
   unfolding applied
   applied-on e = rw (ne_eqb stamp k.frames e)
 
--- ---- a text copied byte by byte
-pub copied_next : (l m text : List ℕ) (at i x : ℕ) → at + length text ≤ length l → i < length text → x ≡ get_or text i 0 → m ≡ sets l at (take i text) → set m (at + i) x ≡ sets l at (take (i + 1) text)
-copied_next l m text at i x h k e p =
-    let short : length (take i text) ≡ i = length-take-le i text (omega arith) in
-    let long : length m ≡ length l = ap length p ∙ length-sets l at (take i text) in
-    ap (set m (at + i)) e
-    ∙ (put_next l m (set m (at + i) (get_or text i 0)) text at (at + i) (at + i + 1) i k (omega (arith, short), p) (omega (arith, long), refl)).1
-
-pub copied_all : (l m text : List ℕ) (at i : ℕ) → length text ≤ i → m ≡ sets l at (take i text) → m ≡ sets l at text
-copied_all l m text at i h p = p ∙ ap (sets l at) (take_all i text h)
-
-pub copied-put : (l m text : List ℕ) (at : ℕ) → at ≤ length l → length text ≤ length l - at → m ≡ sets l at text → Put l m at text (at + length text)
-copied-put l m text at h k p = (omega arith, p)
+-- ---- a text copied whole
+pub copied-put : (l m text : List ℕ) (at : ℕ) → at ≤ length l → length text ≤ length l - at → m ≡ text → Put l (put_mid at (at + length text - at) l m) at text (at + length text)
+copied-put l m text at h k p = (omega arith, ap (put_mid at (at + length text - at) l) p ∙ put-part l text at (length text) (omega (arith, h, k)) refl)

@@ -1,4 +1,5 @@
 -- Lines written out into a buffer, one more at a time. Assumes nothing.
+use Rattle.std.specs.Prelude.{Ok, Some, None, Err}
 use mathlib.Core.Path.{◌≡◌, refl, sym, ap, ◌∙◌, subst}
 use mathlib.Core.Bool.{Bool, true, false, cond}
 use mathlib.Core.List.{List, [], ◌∷◌, ◌++◌}
@@ -13,11 +14,10 @@ use Rattle.num.specs.Lists.{part}
 use Rattle.num.proofs.Choice.{cond-by}
 use Rattle.decimal.specs.Written.{Put, decimal}
 use Rattle.decimal.proofs.Writing.{width-below, put-append, put-none}
+use Rattle.log_lines.specs.declared.LineFault.{LineFault}
 use Rattle.timed_log.specs.declared.Clockwork.{Clockwork}
 use Rattle.timed_log.specs.declared.Unrolled.{Unrolled}
-use Rattle.timed_log.specs.declared.Ahead.{Ahead}
-use Rattle.timed_log.specs.declared.Ahead.TheVariants.{Line, Rest, Bad}
-use Rattle.timed_log.specs.Lines.{next_due}
+use Rattle.timed_log.specs.Lines.{line_ahead, Ahead, next_due}
 use Rattle.timed_log.specs.Unrolled.{clock_most, clock_line, clock_text, clockwork, applied}
 use Rattle.timed_log.specs.Unrolls.{line_room, has_place, Reach, reach, gap_text, reach_behind, ahead_of, on_line, unroll_on, unroll_from, unrolled_as, unrolled_to}
 use Rattle.timed_log.proofs.Found.{Found, found-is, due-short, part_length}
@@ -38,7 +38,13 @@ gap_length n h = cond-by (λ (t : List ℕ). length t ≤ 7) (eqb n 0) _ _ (λ e
 
 -- no line stands there
 abbrev pub NoLine : Ahead → Type 0
-NoLine a = (stamp from to : ℕ) → a ≡ Line stamp from to → ⊥
+NoLine a = (stamp from to : ℕ) → a ≡ Ok (Some (line_ahead stamp from to)) → ⊥
+
+pub rest-none : (a : Ahead) → Ok None ≡ a → NoLine a
+rest-none a e stamp from to q = let z : ◌≡◌ {A = Ahead} (Ok None) (Ok (Some (line_ahead stamp from to))) = e ∙ q in let y : ◌≡◌ {A = ℕ} 0 1 = cc in omega arith
+
+pub bad-none : (a : Ahead) (why : LineFault) → a ≡ Err why → NoLine a
+bad-none a why e stamp from to q = let z : ◌≡◌ {A = Ahead} (Err why) (Ok (Some (line_ahead stamp from to))) = sym e ∙ q in let y : ◌≡◌ {A = ℕ} 0 1 = cc in omega arith
 
 module _ (room : ℕ) (input : List ℕ) where
   -- what a line adds
@@ -46,7 +52,7 @@ module _ (room : ℕ) (input : List ℕ) where
     pub more : length s.text < length t.text
     pub few : length t.text ≤ length s.text + 24
 
-  adds : (s : Reach) (stamp from to : ℕ) → ahead_of input s ≡ Line stamp from to → Adds s (reach_behind input s stamp from to)
+  adds : (s : Reach) (stamp from to : ℕ) → ahead_of input s ≡ Ok (Some (line_ahead stamp from to)) → Adds s (reach_behind input s stamp from to)
   unfolding reach_behind
   adds s stamp from to e =
       let f = found-is s.clock (drop s.from input) s.from stamp from to e in
@@ -86,11 +92,11 @@ module _ (room : ℕ) (input : List ℕ) where
       Next = (t : Reach) → room ≤ length t.text + n → room ≤ length t.text + m → unroll_on room input n t ≡ unroll_on room input m t
 
       goes : (x : Ahead) → ahead_of input s ≡ x → Next → on_line input s (unroll_on room input n) x ≡ on_line input s (unroll_on room input m) x
-      goes (Line stamp from to) e ih =
-          let more = (adds s stamp from to e).more in
-          ih (reach_behind input s stamp from to) (omega arith) (omega arith)
-      goes Rest e ih = refl
-      goes (Bad why) e ih = refl
+      goes (Ok (Some due)) e ih =
+          let more = (adds s due.stamp due.from due.to e).more in
+          ih (reach_behind input s due.stamp due.from due.to) (omega arith) (omega arith)
+      goes (Ok None) e ih = refl
+      goes (Err why) e ih = refl
 
       go : (t : Bool) → Next → cond t (on_line input s (unroll_on room input n) (ahead_of input s)) s ≡ cond t (on_line input s (unroll_on room input m) (ahead_of input s)) s
       go true ih = goes (ahead_of input s) refl ih
@@ -106,21 +112,21 @@ module _ (room : ℕ) (input : List ℕ) where
     where
       go : (x : Ahead) → ahead_of input s ≡ x → length s.text + line_room ≤ room → ((t : Reach) → length t.text ≤ room → length (unroll_on room input n t).text ≤ room)
           → length (on_line input s (unroll_on room input n) x).text ≤ room
-      go (Line stamp from to) e p ih = ih (reach_behind input s stamp from to) (omega (arith, (adds s stamp from to e).few))
-      go Rest e p ih = h
-      go (Bad why) e p ih = h
+      go (Ok (Some due)) e p ih = ih (reach_behind input s due.stamp due.from due.to) (omega (arith, (adds s due.stamp due.from due.to e).few))
+      go (Ok None) e p ih = h
+      go (Err why) e p ih = h
 
   pub unroll-within : (s : Reach) → length s.text ≤ room → length (unroll_from room input s).text ≤ room
   unfolding unroll_from
   unroll-within s h = bounded room s h
 
   -- ---- from a place on
-  once : (s : Reach) (stamp from to : ℕ) → has_place room (length s.text) s.number ≡ true → ahead_of input s ≡ Line stamp from to
+  once : (s : Reach) (stamp from to : ℕ) → has_place room (length s.text) s.number ≡ true → ahead_of input s ≡ Ok (Some (line_ahead stamp from to))
       → unroll_on room input (suc room) s ≡ unroll_on room input room (reach_behind input s stamp from to)
   unfolding unroll_on
   once s stamp from to h e = rw (h, e)
 
-  pub unroll_line : (s : Reach) (stamp from to : ℕ) → has_place room (length s.text) s.number ≡ true → length s.text + line_room ≤ room → ahead_of input s ≡ Line stamp from to
+  pub unroll_line : (s : Reach) (stamp from to : ℕ) → has_place room (length s.text) s.number ≡ true → length s.text + line_room ≤ room → ahead_of input s ≡ Ok (Some (line_ahead stamp from to))
       → unroll_from room input s ≡ unroll_from room input (reach_behind input s stamp from to)
   unfolding unroll_from
   unroll_line s stamp from to h r e =
@@ -147,13 +153,13 @@ module _ (room : ℕ) (input : List ℕ) where
 
   stays : (n : ℕ) (s : Reach) (a : Ahead) → NoLine a → ahead_of input s ≡ a → unroll_on room input (suc n) s ≡ s
   unfolding unroll_on
-  stays n s (Line stamp from to) t e = absurd (t stamp from to refl)
-  stays n s Rest t e = rw e (go (has_place room (length s.text) s.number))
+  stays n s (Ok (Some due)) t e = absurd (t due.stamp due.from due.to refl)
+  stays n s (Ok None) t e = rw e (go (has_place room (length s.text) s.number))
     where
       go : (b : Bool) → cond b s s ≡ s
       go true = refl
       go false = refl
-  stays n s (Bad why) t e = rw e (go (has_place room (length s.text) s.number))
+  stays n s (Err why) t e = rw e (go (has_place room (length s.text) s.number))
     where
       go : (b : Bool) → cond b s s ≡ s
       go true = refl
@@ -199,7 +205,7 @@ module _ (input : List ℕ) (run : Reach) (k : Clockwork) (line place end : ℕ)
   unrolling-stays a t e = unrolling-done (unroll-stays (length out) input here a t (sym e))
 
   -- and where it goes on
-  module _ (stamp from to e : ℕ) (now : List ℕ) (room : end + line_room ≤ length out) (more : line + 1 < 2 ^ 64) (found : next_due k (drop place input) place ≡ Line stamp from to) where
+  module _ (stamp from to e : ℕ) (now : List ℕ) (room : end + line_room ≤ length out) (more : line + 1 < 2 ^ 64) (found : next_due k (drop place input) place ≡ Ok (Some (line_ahead stamp from to))) where
     abbrev f : Found k (drop place input) place stamp from to
     f = found-is k (drop place input) place stamp from to found
 

@@ -1,4 +1,5 @@
 -- A turn of a timed log, and its end. Assumes nothing.
+use Rattle.std.specs.Prelude.{Ok, Some, None, Err}
 use mathlib.Core.Path.{◌≡◌, refl, sym, ap, ◌∙◌, subst}
 use mathlib.Core.Bool.{Bool, true, false, cond}
 use mathlib.Core.List.{List, [], ◌∷◌}
@@ -12,18 +13,17 @@ use borrow.Author.Tests.{eq-eqb, ne_eqb, lt-ltb, le-ltb}
 use Rattle.num.specs.Lists.{part}
 use Rattle.decimal.specs.Written.{Put}
 use Rattle.decimal.proofs.Writing.{put-append, put-none}
-use Rattle.log_player.specs.declared.Next.{Next}
-use Rattle.log_player.specs.declared.Next.TheVariants.{Line, Rest, Bad, Refused}
+use Rattle.log_player.specs.Steps.{Next}
+use Rattle.log_player.specs.declared.Stop.TheVariants.{Bad, Refused}
 use Rattle.log_player.specs.declared.Made.{Made}
 use Rattle.log_player.specs.declared.Ran.{Ran}
 use Rattle.log_player.specs.Worlds.{World, world, made_player}
 use Rattle.log_player.specs.Runs.{spot, Run, log_run, stop_text, ran_to}
 use Rattle.timed_log.specs.declared.Clockwork.{Clockwork}
 use Rattle.timed_log.specs.declared.Unrolled.{Unrolled}
-use Rattle.timed_log.specs.declared.Ahead.{Ahead}
 use Rattle.timed_log.specs.declared.Timed.{Timed}
 use Rattle.timed_log.specs.declared.TimedRan.{TimedRan}
-use Rattle.timed_log.specs.Lines.{next_due}
+use Rattle.timed_log.specs.Lines.{Ahead, next_due}
 use Rattle.timed_log.specs.Unrolled.{no_frames}
 use Rattle.timed_log.specs.Unrolls.{Reach, reach, unroll_from, unrolled_to}
 use Rattle.timed_log.specs.Turns.{Stand, Turn, turn, left_of, goes_on, played_as, played_on, next_at, told_as, told, stands_at, written_out, turn_over, standing, timed_to, made_timed}
@@ -100,7 +100,7 @@ module _ (input : List ℕ) (s : Stand) where
   unfolding written_out
   written_none e = rw (eq-eqb (length out-to.text) 0 e)
 
-  written-some : (length out-to.text ≡ 0 → ⊥) → written_out input s ≡ turn (stands_at s out-to) (Line out-to.from) []
+  written-some : (length out-to.text ≡ 0 → ⊥) → written_out input s ≡ turn (stands_at s out-to) (Ok (Some out-to.from)) []
   unfolding written_out
   written-some e = rw (ne_eqb (length out-to.text) 0 e)
 
@@ -120,11 +120,11 @@ module _ (input : List ℕ) (s : Stand) where
       subst (λ (x : Turn). Writes x r plain out now) (sym (written_none none)) (t.0, (same ∙ told-plain input s, t.1))
 
   pub writes-some : (u : Unrolled) (plain out : List ℕ) → u ≡ unrolled_to out-to → plain ≡ sets s.plain 0 out-to.text → (u.end ≡ 0 → ⊥)
-      → Writes (written_out input s) (record { timed = record { player = s.world.player; clock = u.clock; from = 0; end = u.end }; next = Line u.from; from = u.from; number = u.number; end = 0 }) plain out out
+      → Writes (written_out input s) (record { timed = record { player = s.world.player; clock = u.clock; from = 0; end = u.end }; next = Ok (Some u.from); from = u.from; number = u.number; end = 0 }) plain out out
   writes-some u plain out e p z =
-      subst (λ (x : Turn). Writes x (record { timed = record { player = s.world.player; clock = u.clock; from = 0; end = u.end }; next = Line u.from; from = u.from; number = u.number; end = 0 }) plain out out)
+      subst (λ (x : Turn). Writes x (record { timed = record { player = s.world.player; clock = u.clock; from = 0; end = u.end }; next = Ok (Some u.from); from = u.from; number = u.number; end = 0 }) plain out out)
       (sym (written-some (λ n. z (ap (λ (x : Unrolled). x.end) e ∙ n))))
-      ((λ i. record { timed = record { player = s.world.player; clock = (e i).clock; from = 0; end = (e i).end }; next = Line (e i).from; from = (e i).from; number = (e i).number; end = zero i }), (p, refl))
+      ((λ i. record { timed = record { player = s.world.player; clock = (e i).clock; from = 0; end = (e i).end }; next = Ok (Some (e i).from); from = (e i).from; number = (e i).number; end = zero i }), (p, refl))
     where
       zero : 0 ≡ min 0 (length out)
       zero = omega arith
@@ -164,7 +164,7 @@ module _ (input : List ℕ) (t : Timed) (ram : List ℕ) (queues : List ℤ) (pl
       u = unroll_from (length plain) input (reach t.clock number place [])
 
       at : Stand → Bool → Turn
-      at s b = cond b (told_as s (next_at place (next_due t.clock (drop place input) place))) (turn (stands_at s u) (Line u.from) [])
+      at s b = cond b (told_as s (next_at place (next_due t.clock (drop place input) place))) (turn (stands_at s u) (Ok (Some u.from)) [])
 
       go : (b : Bool) → Writes input here (at (standing t [] [] plain place number) b) r p out now → Runs (at here b) r p ram queues out now
       go true w = (w.0, (w.1.0, (refl, (refl, w.1.1))))
@@ -215,10 +215,10 @@ pub told_none : (l text : List ℕ) (at : ℕ) → at ≤ length l → text ≡ 
 told_none l text at h e = rw e (put-none l at at (omega arith))
 
 told-world : (w : World) (number rest : ℕ) (next : Next) → told_last (world w.player [] []) number rest next ≡ told_last w number rest next
-told-world w number rest (Line place) = refl
-told-world w number rest Rest = refl
-told-world w number rest (Bad why) = refl
-told-world w number rest (Refused why) = refl
+told-world w number rest (Ok (Some place)) = refl
+told-world w number rest (Ok None) = refl
+told-world w number rest (Err (Bad why)) = refl
+told-world w number rest (Err (Refused why)) = refl
 
 pub finishes : (run : Run) (number rest : ℕ) (r : Ran) (ram : List ℕ) (queues : List ℤ) (out mid now : List ℕ) (end : ℕ) → Lasts run out r ram queues mid → Put mid now r.end (told_last (world r.player [] []) number rest r.next) end
     → Put out now 0 (last_told number rest run) end

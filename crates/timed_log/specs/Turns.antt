@@ -1,18 +1,16 @@
 -- A timed log played, turn by turn: what was written out is played, and where nothing is left of it, lines are written out.
-use Rattle.std.specs.Prelude.{cond, List, [], ℕ, ◌-◌, min, eqb, ltb, length, drop, ℤ}
+use Rattle.std.specs.Prelude.{Ok, Some, None, Err, cond, List, [], ℕ, ◌-◌, min, eqb, ltb, length, drop, ℤ}
 use Rattle.std.proofs.lemmas.List.Edits.{sets}
 use Rattle.num.specs.Lists.{part}
-use Rattle.log_player.specs.declared.Next.{Next}
-use Rattle.log_player.specs.declared.Next.TheVariants.{Line, Rest, Bad, Refused}
+use Rattle.log_player.specs.Steps.{Next}
+use Rattle.log_player.specs.declared.Stop.TheVariants.{Bad, Refused}
 use Rattle.log_player.specs.Worlds.{World, world, fresh_player, made_player}
 use Rattle.log_player.specs.Runs.{spot, Run, log_run, stop_text}
 use Rattle.timed_log.specs.declared.Clockwork.{Clockwork}
-use Rattle.timed_log.specs.declared.Ahead.{Ahead}
-use Rattle.timed_log.specs.declared.Ahead.TheVariants as ahead
 use Rattle.timed_log.specs.declared.Timed.{Timed}
 use Rattle.timed_log.specs.declared.MadeTimed.{MadeTimed}
 use Rattle.timed_log.specs.declared.TimedRan.{TimedRan}
-use Rattle.timed_log.specs.Lines.{next_due}
+use Rattle.timed_log.specs.Lines.{Ahead, next_due}
 use Rattle.timed_log.specs.Unrolled.{no_frames}
 use Rattle.timed_log.specs.Unrolls.{Reach, reach, unroll_from}
 
@@ -42,17 +40,17 @@ turn s next text = record { stand = s; next = next; text = text }
 -- ---- what was written out is played
 -- what is left of it; behind a whole line there is nothing
 abbrev pub left_of : ℕ → ℕ → Next → ℕ
-left_of end from (Line place) = from
-left_of end from Rest = end
-left_of end from (Bad why) = from
-left_of end from (Refused why) = from
+left_of end from (Ok (Some place)) = from
+left_of end from (Ok None) = end
+left_of end from (Err (Bad why)) = from
+left_of end from (Err (Refused why)) = from
 
 -- another turn follows
 abbrev pub goes_on : ℕ → Next → Next
-goes_on place (Line line) = Line place
-goes_on place Rest = Line place
-goes_on place (Bad why) = Bad why
-goes_on place (Refused why) = Refused why
+goes_on place (Ok (Some line)) = Ok (Some place)
+goes_on place (Ok None) = Ok (Some place)
+goes_on place (Err (Bad why)) = Err (Bad why)
+goes_on place (Err (Refused why)) = Err (Refused why)
 
 abbrev pub played_as : Stand → Run → Turn
 played_as s r =
@@ -63,9 +61,9 @@ played_on room s = played_as s (log_run room (part s.plain 0 (s.end - 0)) (spot 
 
 -- ---- lines are written out
 abbrev pub next_at : ℕ → Ahead → Next
-next_at place (ahead.Line stamp from to) = Line place
-next_at place ahead.Rest = Rest
-next_at place (ahead.Bad why) = Bad why
+next_at place (Ok (Some line)) = Ok (Some place)
+next_at place (Ok None) = (Ok None)
+next_at place (Err why) = Err (Bad why)
 
 -- where there is none, it is told why
 abbrev pub told_as : Stand → Next → Turn
@@ -78,7 +76,7 @@ abbrev pub stands_at : Stand → Reach → Stand
 stands_at s u = stand s.world u.clock (sets s.plain 0 u.text) 0 (length u.text) u.from u.number
 
 abbrev pub written_as : List ℕ → Stand → Reach → Turn
-written_as input s u = cond (eqb (length u.text) 0) (told input s) (turn (stands_at s u) (Line u.from) [])
+written_as input s u = cond (eqb (length u.text) 0) (told input s) (turn (stands_at s u) (Ok (Some u.from)) [])
 
 unfoldable pub written_out : List ℕ → Stand → Turn
 written_out input s = written_as input s (unroll_from (length s.plain) input (reach s.clock s.number s.place []))

@@ -1,11 +1,9 @@
 -- Some of a timed log written out into a buffer, line by line.
-use Rattle.std.specs.Prelude.{Bool, false, cond, List, [], ◌++◌, ℕ, zero, suc, ◌+◌, ◌-◌, eqb, leb, ltb, length, drop}
+use Rattle.std.specs.Prelude.{Ok, Some, None, Err, Bool, false, cond, List, [], ◌++◌, ℕ, zero, suc, ◌+◌, ◌-◌, eqb, leb, ltb, length, drop}
 use Rattle.num.specs.Lists.{part}
 use Rattle.timed_log.specs.declared.Clockwork.{Clockwork}
-use Rattle.timed_log.specs.declared.Ahead.{Ahead}
-use Rattle.timed_log.specs.declared.Ahead.TheVariants.{Line, Rest, Bad}
 use Rattle.timed_log.specs.declared.Unrolled.{Unrolled}
-use Rattle.timed_log.specs.Lines.{next_due}
+use Rattle.timed_log.specs.Lines.{Ahead, next_due}
 use Rattle.timed_log.specs.Unrolled.{clock_most, clock_text, clockwork, applied}
 
 -- room for a `C` line and a line: 7 bytes, and 17
@@ -42,9 +40,9 @@ abbrev pub ahead_of : List ℕ → Reach → Ahead
 ahead_of input s = next_due s.clock (drop s.from input) s.from
 
 abbrev pub on_line : List ℕ → Reach → (Reach → Reach) → Ahead → Reach
-on_line input s more (Line stamp from to) = more (reach_behind input s stamp from to)
-on_line input s more Rest = s
-on_line input s more (Bad why) = s
+on_line input s more (Ok (Some line)) = more (reach_behind input s line.stamp line.from line.to)
+on_line input s more (Ok None) = s
+on_line input s more (Err why) = s
 
 -- line by line into a buffer of some length, at most so many
 unfoldable pub unroll_on : ℕ → List ℕ → ℕ → Reach → Reach

@@ -34,10 +34,8 @@ fn put_last(
     ensures { Put out.old out.new at (told_last (world player [] []) number rest next) result }
 {
     match next {
-        Next::Line(_) => at,
-        Next::Rest => player.finish(rest, number, out, at),
-        Next::Bad(_) => at,
-        Next::Refused(_) => at,
+        Ok(None) => player.finish(rest, number, out, at),
+        _ => at,
     }
 }
 
@@ -63,7 +61,7 @@ impl Timed {
         }
         Ran {
             player,
-            next: Next::Rest,
+            next: Ok(None),
             from: 0,
             number: 1,
             end: 0,
@@ -71,7 +69,7 @@ impl Timed {
     }
 
     // Sounds the frame of the last stamp and puts the last line of the text, where the input ends and `rest` bytes follow its last
-    // byte 10. `Next::Rest`: that was done.
+    // byte 10. `Ok(None)`: that was done.
     pub fn finish(
         self,
         rest: usize,

@@ -7,27 +7,22 @@ mod lines;
 mod runs;
 mod unrolling;
 
+use log_lines::LineFault;
 use log_player::{Next, Player};
 use s3w2::Answer;
-
-// The numbers of lines that come too late, and that are more than a frame may have (docs/SPECIFICATION.md, section 12).
-pub const LATE: u8 = 18;
-
-pub const CROWDED: u8 = 19;
 
 // At most so many lines are due at one frame.
 pub const FRAME_LINES: u32 = 64;
 
-// A line of a timed log. What is due begins at a place behind the stamp; a `Late` line has a stamp below the one before it, a `Crowded` one
-// is one too many at its frame.
-#[derive(Clone, Copy)]
-pub enum TimedLine {
-    Due { stamp: u32, from: usize },
-    Malformed,
-    Unmapped,
-    Late,
-    Crowded,
+// A line of a timed log: its stamp, and the place behind it at which what is due begins.
+#[derive(Clone, Copy, PartialEq, Eq, Debug)]
+pub struct Due {
+    pub stamp: u32,
+    pub from: usize,
 }
+
+// The same, or why the line is bad.
+pub type TimedLine = Result<Due, LineFault>;
 
 // The frames that a log has written out, and how many lines stand behind them.
 #[derive(Clone, Copy)]
@@ -36,14 +31,16 @@ pub struct Clockwork {
     pub lines: u32,
 }
 
-// What an input holds at a place: a line, its stamp, where the plain line in it begins and the place behind it; no whole line; a bad
-// line, and the number of why it is one.
-#[derive(Clone, Copy)]
-pub enum Ahead {
-    Line { stamp: u32, from: usize, to: usize },
-    Rest,
-    Bad(u8),
+// A line in an input: its stamp, where the plain line in it begins, and the place behind it.
+#[derive(Clone, Copy, PartialEq, Eq, Debug)]
+pub struct LineAhead {
+    pub stamp: u32,
+    pub from: usize,
+    pub to: usize,
 }
+
+// What an input holds at a place: a line; no whole line; or why the line is bad.
+pub type Ahead = Result<Option<LineAhead>, LineFault>;
 
 // Some lines of an input written out: the clockwork then, the place behind them, the number of the line there, and the place behind the text.
 #[derive(Clone, Copy)]
@@ -80,7 +77,7 @@ pub struct TimedRan {
     pub end: usize,
 }
 
-// The end of a log: `Next::Rest` where all is played, and the place behind what was printed.
+// The end of a log: `Ok(None)` where all is played, and the place behind what was printed.
 #[derive(Clone, Copy)]
 pub struct Finished {
     pub next: Next,

@@ -8,17 +8,15 @@ ghost use Rattle.log_player.specs.Runs.{stop_text};
 ghost use Rattle.timed_log.specs.Turns.{made_timed, standing, left_of, goes_on, next_at, played_on, told, written_out, turn_over, timed_to};
 
 use crate::{Ahead, Clockwork, MadeTimed, Timed, TimedRan};
-use log_player::{Next, Player};
+use log_player::{Next, Player, Stop};
 
 // What is left of a text that was played to `from`: nothing where no whole line is.
 fn left_of(end: usize, from: usize, next: Next) -> usize
     ensures { result ≡ left_of end from next }
 {
     match next {
-        Next::Line(_) => from,
-        Next::Rest => end,
-        Next::Bad(_) => from,
-        Next::Refused(_) => from,
+        Ok(None) => end,
+        _ => from,
     }
 }
 
@@ -26,12 +24,8 @@ fn left_of(end: usize, from: usize, next: Next) -> usize
 fn goes_on(place: usize, next: Next) -> Next
     ensures { result ≡ goes_on place next }
 {
-    match next {
-        Next::Line(_) => Next::Line(place),
-        Next::Rest => Next::Line(place),
-        Next::Bad(why) => Next::Bad(why),
-        Next::Refused(why) => Next::Refused(why),
-    }
+    next?;
+    Ok(Some(place))
 }
 
 // What comes next where nothing was written out.
@@ -39,9 +33,9 @@ fn next_at(place: usize, found: Ahead) -> Next
     ensures { result ≡ next_at place found }
 {
     match found {
-        Ahead::Line { .. } => Next::Line(place),
-        Ahead::Rest => Next::Rest,
-        Ahead::Bad(why) => Next::Bad(why as u64),
+        Ok(Some(_)) => Ok(Some(place)),
+        Ok(None) => Ok(None),
+        Err(why) => Err(Stop::Bad(why)),
     }
 }
 
@@ -50,9 +44,8 @@ fn put_stop(found: Ahead, place: usize, number: u64, out: &mut [u8]) -> usize
     ensures { Put out.old out.new 0 (stop_text number (next_at place found)) result }
 {
     match found {
-        Ahead::Line { .. } => 0,
-        Ahead::Rest => 0,
-        Ahead::Bad(why) => log_lines::put_bad(out, 0, number, why),
+        Ok(_) => 0,
+        Err(why) => log_lines::put_bad(out, 0, number, why.number()),
     }
 }
 
@@ -178,7 +171,7 @@ impl Timed {
         };
         TimedRan {
             timed,
-            next: Next::Line(unrolled.from),
+            next: Ok(Some(unrolled.from)),
             from: unrolled.from,
             number: unrolled.number,
             end: 0,
@@ -186,7 +179,7 @@ impl Timed {
     }
 
     // A turn of a log, whose line `number` stands at `from` of the input: plays on in what was written out, or writes out lines. What it
-    // prints is put into out. `Next::Line`: another turn is to follow; `Next::Rest`: all of the input's whole lines are played.
+    // prints is put into out. `Ok(Some(_))`: another turn is to follow; `Ok(None)`: all of the input's whole lines are played.
     // Where the chip refuses calls over this RAM and queue buffer nothing is played or printed.
     pub fn run(
         self,

@@ -7,7 +7,7 @@ ghost use Rattle.timed_log.specs.Lines.{frame_most, due_already};
 ghost use Rattle.timed_log.specs.Unrolled.{clock_most, clock_text, clockwork, no_frames, applied};
 ghost use Rattle.timed_log.specs.Unrolls.{has_place, gap_text, reach, unroll_from, unrolled_as, unrolled_to};
 
-use crate::{Ahead, Clockwork, Unrolled};
+use crate::{Clockwork, Unrolled};
 
 // A `C` line has at most so many frames.
 const MOST_FRAMES: u32 = 1000;
@@ -38,25 +38,13 @@ fn put_clock(out: &mut [u8], at: usize, frames: u32) -> usize
     decimal::put_byte(out, second, 10)
 }
 
-// Copies a text into out from `at` on.
-fn copy(out: &mut [u8], at: usize, text: &[u8])
-    requires { at + length text.now ≤ length out.old }
-    ensures { out.new ≡ sets out.old at text.now }
-{
-    let mut i = 0;
-    while i < text.len() {
-        out[at + i] = text[i];
-        i += 1;
-    }
-}
-
 // Puts a text as decimal::put_text does; where there is room it is copied.
 fn put_bytes(out: &mut [u8], at: usize, text: &[u8]) -> usize
     ensures { Put out.old out.new at text.now result }
 {
     if at <= out.len() {
         if text.len() <= out.len() - at {
-            copy(out, at, text);
+            out[at..at + text.len()].copy_from_slice(text);
             return at + text.len();
         }
     }
@@ -127,23 +115,17 @@ impl Clockwork {
         let mut line = number;
         let mut end = 0;
         while has_place(plain.len(), end, line) {
-            let found = clock.next_due(input, place);
-            let Ahead::Line {
-                stamp,
-                from: begin,
-                to,
-            } = found
-            else {
+            let Ok(Some(due)) = clock.next_due(input, place) else {
                 return clock.unrolled(place, line, end);
             };
-            let gap = stamp - clock.frames;
+            let gap = due.stamp - clock.frames;
             if MOST_FRAMES < gap {
                 end = put_clock(&mut *plain, end, MOST_FRAMES);
                 clock = clock.sounded();
             } else {
-                end = put_line(&mut *plain, end, gap, num::part(input, begin, to));
-                clock = clock.applied(stamp);
-                place = to;
+                end = put_line(&mut *plain, end, gap, num::part(input, due.from, due.to));
+                clock = clock.applied(due.stamp);
+                place = due.to;
                 line += 1;
             }
         }

@@ -1,6 +1,5 @@
 pub mod Streams
 pub mod Wrapping
-pub mod Slews
 pub mod Masks
 pub mod Ram
 pub mod Channels

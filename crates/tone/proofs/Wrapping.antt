@@ -1,7 +1,7 @@
 -- Sums of 32 bits that wrap. Assumes nothing.
-use Rattle.std.proofs.Common.{◌≡◌, ◌+◌, ◌-◌, ◌%◌, ◌^◌, ◌≤◌, ℤ, pos, negsuc, ◌+ℤ◌, ap, ◌∙◌, arith, w32, w64, SFits, to_z, of_z}
+use Rattle.std.proofs.Common.{◌≡◌, ◌+◌, ◌-◌, ◌%◌, ◌^◌, ℤ, pos, negsuc, ◌+ℤ◌, ap, ◌∙◌, arith, w32, SFits, to_z, of_z}
 use Rattle.num.specs.Integers.{up, down}
-use Rattle.num.proofs.Integers.{fit, fit-up, fit-down, back, one-zero, z-add}
+use Rattle.num.proofs.Integers.{fit-up, fit-down, back, one-zero, z-add}
 use Rattle.tone.specs.Mix.{wrapped}
 
 bits_of : (t : ℤ) → SFits w32 t → (up t + (2 ^ 32 - down t)) % 2 ^ 32 ≡ of_z w32 t
@@ -12,12 +12,9 @@ bits_of (negsuc n) f = omega (arith, fit-down f)
 pub wrapped-is : (z t : ℤ) → SFits w32 t → (up z + (2 ^ 32 - down z)) % 2 ^ 32 ≡ (up t + (2 ^ 32 - down t)) % 2 ^ 32 → wrapped z ≡ t
 wrapped-is z t f e = ap (to_z w32) (e ∙ bits_of t f) ∙ back w32 t f
 
-module _ (a b : ℤ) (f : SFits w32 a) (g : SFits w32 b) where
-  pub sum-high : up (a +ℤ b) ≤ 2 ^ 32 - 2
-  sum-high = omega (arith, fit-up f, fit-up g, z-add a b, one-zero (a +ℤ b))
-
-  pub sum_low : down (a +ℤ b) ≤ 2 ^ 32
-  sum_low = omega (arith, fit-down f, fit-down g, z-add a b, one-zero (a +ℤ b))
-
-  pub sum_fits : SFits w64 (a +ℤ b)
-  sum_fits = fit w64 _ (omega (arith, sum-high)) (omega (arith, sum_low))
+-- what the sum of the bits leaves
+pub sum-wraps : (a b : ℤ) → SFits w32 a → SFits w32 b → (of_z w32 a + of_z w32 b) % 2 ^ 32 ≡ (up (a +ℤ b) + (2 ^ 32 - down (a +ℤ b))) % 2 ^ 32
+sum-wraps a b f g =
+    let e = bits_of a f in
+    let d = bits_of b g in
+    omega (arith, e, d, z-add a b, one-zero a, one-zero b, one-zero (a +ℤ b), fit-up f, fit-down f, fit-up g, fit-down g)

@@ -121,12 +121,5 @@ pub fn saturating_add(a: i16, b: i16) -> i16
 pub fn wrapping_add(a: i32, b: i32) -> i32
     ensures { result ≡ wrapping_add a b }
 {
-    let sum = (a as i64) + (b as i64);
-    if sum < -2147483648 {
-        return (sum + 4294967296) as i32;
-    }
-    if 2147483647 < sum {
-        return (sum - 4294967296) as i32;
-    }
-    sum as i32
+    a.wrapping_add(b)
 }

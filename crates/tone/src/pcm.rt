@@ -22,7 +22,7 @@ pub fn is_ram_length(length: usize) -> bool
 fn mask_of(length: usize) -> usize
     ensures { result ≡ length - 1 }
 {
-    if length == 0 { 0 } else { length - 1 }
+    length.saturating_sub(1)
 }
 
 // The RAM's byte at a position after the start.
@@ -60,10 +60,7 @@ pub fn pcm_next(address: usize, end: u32, loop_addr: u32, control: u8, length: u
 fn phase_from(start: u32, address: u32) -> u64
     ensures { result ≡ (address - start) * 2 ^ 29 }
 {
-    if start < address {
-        return ((address - start) as u64) << 29;
-    }
-    0
+    (address.saturating_sub(start) as u64) << 29
 }
 
 // The phase after a tick whose sample came from an address: from the end on it jumps to the loop, or stays at the end.
@@ -88,11 +85,9 @@ pub fn pcm_phase_after(
 }
 
 // Whether the sample at an address is silent: from the end on, without a loop.
+#[tactic(auto, unfolding(crate::specs::Pcm::pcm_is_over))]
 pub fn pcm_is_over(address: usize, end: u32, control: u8) -> bool
     ensures { result ≡ pcm_is_over address end control }
 {
-    if address < end as usize {
-        return false;
-    }
-    !loops(control)
+    (end as usize <= address) & !loops(control)
 }

@@ -21,14 +21,14 @@ pub fn wave_phase_step(frequency: u16) -> u64
 pub fn pcm_phase_step(frequency: u16) -> u64
     ensures { result ≡ pcm_phase_step frequency }
 {
-    phase_step_q26(num::least(frequency as usize, 48000) as u16)
+    phase_step_q26(frequency.min(48000))
 }
 
 // A stream's step of phase at a frequency.
 pub fn sqv4_phase_step(frequency: u16) -> u64
     ensures { result ≡ sqv4_phase_step frequency }
 {
-    phase_step_q26(num::least(frequency as usize, 12000) as u16)
+    phase_step_q26(frequency.min(12000))
 }
 
 // The whole samples of a phase, and the fraction after them in 1/256.

@@ -42,24 +42,20 @@ pub fn window(q8: u16, modulator: i16) -> u16
     if modulator < 0 { 32768 } else { q8 }
 }
 
-fn most(a: usize, b: usize) -> usize
-    ensures { result ≡ max a b }
-{
-    if a < b { b } else { a }
-}
-
 // The slew register moves toward a value, by at most a step: the value, kept between a step down and a step up.
+#[tactic(auto, unfolding(crate::specs::Shape::slew_rate))]
 pub fn slew_rate(current: u16, q8: u16, step: u16) -> u16
     ensures result { result ≡ slew_rate current q8 step }
     ensures bound { result ≤ 65280 }
 {
     let now = current as usize;
     let by = step as usize;
-    let near = most(q8 as usize, now - num::least(now, by));
-    num::least(num::least(near, now + by), 65280) as u16
+    let near = (q8 as usize).max(now.saturating_sub(by));
+    near.min(now + by).min(65280) as u16
 }
 
 // It moves by a whole step: down where the value is met.
+#[tactic(auto, unfolding(crate::specs::Shape::slew_step))]
 pub fn slew_step(current: u16, q8: u16, step: u16) -> u16
     ensures result { result ≡ slew_step current q8 step }
     ensures bound { result ≤ 65280 }
@@ -67,36 +63,33 @@ pub fn slew_step(current: u16, q8: u16, step: u16) -> u16
     let now = current as usize;
     let by = step as usize;
     if current < q8 {
-        return num::least(now + by, 65280) as u16;
+        return (now + by).min(65280) as u16;
     }
-    num::least(now - num::least(now, by), 65280) as u16
+    now.saturating_sub(by).min(65280) as u16
 }
 
 // The slew register after a tick: modulation 5 is the rate, 6 the step.
+#[tactic(auto, unfolding(crate::specs::Shape::slew))]
 pub fn slew(modulation: u8, current: u16, q8: u16, step: u16) -> u16
     ensures result { result ≡ slew_of modulation current q8 step }
     ensures upper_bound { current ≤ 65280 → result ≤ 65280 }
 {
-    if modulation == 5 {
-        return slew_rate(current, q8, step);
+    match modulation {
+        5 => slew_rate(current, q8, step),
+        6 => slew_step(current, q8, step),
+        _ => current,
     }
-    if modulation == 6 {
-        return slew_step(current, q8, step);
-    }
-    current
 }
 
 // What is heard: the slew register where one of the two is on.
+#[tactic(auto, unfolding(crate::specs::Shape::slewed))]
 pub fn slewed(modulation: u8, slew: u16, q8: u16) -> u16
     ensures { result ≡ slewed_of modulation slew q8 }
 {
-    if modulation == 5 {
-        return slew;
+    match modulation {
+        5 | 6 => slew,
+        _ => q8,
     }
-    if modulation == 6 {
-        return slew;
-    }
-    q8
 }
 
 // About the centre; without interpolation whole samples.

@@ -2,13 +2,13 @@
 use mathlib.Core.Path.{◌≡◌, refl}
 use mathlib.Core.List.{List, [], ◌∷◌}
 use Prim.Native.Nat.{ℕ}
+use Rattle.std.specs.Prelude.{Option, Some, None}
+use Rattle.version.specs.declared.SguVersion.{SguVersion}
 use Rattle.version.specs.declared.SguVersion.TheVariants.{V1, V2_1, V3, V3_1}
 use Rattle.version.specs.Spaces.{among, space_width, leading, trailing, trim_start_in, trim_end_in}
 use Rattle.version.specs.Names.{drop_v, same_text, named_version, parse_version}
-use Rattle.version.specs.declared.Parsed.{Parsed}
-use Rattle.version.specs.declared.Parsed.TheVariants.{Version, Unknown}
 
-abbrev parsed : List (List ℕ) → List Parsed
+abbrev parsed : List (List ℕ) → List (Option SguVersion)
 parsed [] = []
 parsed (t ∷ ts) = parse_version t ∷ parsed ts
 
@@ -24,6 +24,6 @@ pub examples : parsed
     ∷ ((0 ∷ (32 ∷ (49 ∷ [])))
     ∷ ((224 ∷ (128 ∷ (160 ∷ (49 ∷ []))))
     ∷ ([] ∷ [])))))))))
-    ≡ Version V1 ∷ (Version V2_1 ∷ (Version V3 ∷ (Version V3_1 ∷ (Unknown ∷ (Unknown ∷ (Unknown ∷ (Unknown ∷ (Unknown ∷ []))))))))
+    ≡ Some V1 ∷ (Some V2_1 ∷ (Some V3 ∷ (Some V3_1 ∷ (None ∷ (None ∷ (None ∷ (None ∷ (None ∷ []))))))))
 unfolding parse_version named_version same_text drop_v trim_start_in trim_end_in leading trailing space_width among
 examples = refl

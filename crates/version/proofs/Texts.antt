@@ -1,34 +1,32 @@
 -- Steps along a text: a table searched, two texts compared, letters and white space passed. Assumes nothing.
 use mathlib.Core.Path.{◌≡◌, refl, sym, ap, ap₂, ◌∙◌}
-use mathlib.Core.Bool.{Bool, true, false, cond, ◌||◌}
+use mathlib.Core.Bool.{Bool, true, false, cond, ◌||◌, ◌&&◌}
 use mathlib.Core.List.{List, [], ◌∷◌}
 use Prim.Native.Nat.{ℕ, zero, suc, ◌+◌, ◌-◌, ◌≤◌, ◌<◌}
 use native.Mathlib.Numerals.{add-one}
 use native.Mathlib.Omega.{arith}
 use native.Mathlib.Decide.{dec_le}
 use lib.Dec.{eqb}
+use Rattle.std.specs.List.{list_any}
+use Rattle.std.specs.Cmp.Lexicographic.{pointwise}
 use lib.ListN.{length, take, drop, get_or, drop_of_length-le}
 use lib.Seq.{drop-cons, drop-drop, take-take, length-take-le}
 use borrow.Author.Tests.{eq-eqb, ne_eqb}
 use Rattle.version.specs.Spaces.{among, one_byte, two_bytes, three_bytes, space_width, one_byte_at, two_bytes_at, three_bytes_at, leading, trailing, trim_start_in, trim_end_in, trim_start, trim_end}
+use Rattle.std.specs.Prelude.{Some, None}
 use Rattle.version.specs.declared.SguVersion.TheVariants.{V1, V2, V2_1, V3, V3_1}
 use Rattle.version.specs.Names.{is_v, drop_v, same_text, either_text, digit_name, point, named_version, parse_version}
-use Rattle.version.specs.declared.Parsed.TheVariants.{Version, Unknown}
 
 -- ---- a table
 
-module _ (n : ℕ) (xs : List ℕ) (i : ℕ) where
-  pub among-here : i < length xs → get_or xs i 0 ≡ n → among n (drop i xs) ≡ true
-  unfolding among
-  among-here h e = rw (drop-cons xs i 0 h, eq-eqb (get_or xs i 0) n e)
-
-  pub among_next : i < length xs → (get_or xs i 0 ≡ n → ⊥) → among n (drop i xs) ≡ among n (drop (i + 1) xs)
-  unfolding among
-  among_next h e = rw (add-one i, drop-cons xs i 0 h, ne_eqb (get_or xs i 0) n e)
-
-  pub among-end : length xs ≤ i → among n (drop i xs) ≡ false
-  unfolding among
-  among-end h = rw (drop_of_length-le xs h)
+pub among-any : (n : ℕ) (xs : List ℕ) → list_any (λ y. eqb y n) xs ≡ among n xs
+unfolding among
+among-any n [] = refl
+among-any n (x ∷ xs) = by-first (eqb x n) (among-any n xs)
+  where
+    by-first : (e : Bool) → list_any (λ y. eqb y n) xs ≡ among n xs → (e || list_any (λ y. eqb y n) xs) ≡ cond e true (among n xs)
+    by-first true f = refl
+    by-first false f = f
 
 -- ---- white space by its numbers
 
@@ -65,29 +63,16 @@ either_first a b e = rw e
 pub either_second : (a b : Bool) → a ≡ false → b ≡ (a || b)
 either_second a b e = rw e
 
-pub same-lengths : (s t : List ℕ) → (length s ≡ length t → ⊥) → same_text s t ≡ false
+pub same-by_element : (s t : List ℕ) → pointwise eqb s t ≡ same_text s t
 unfolding same_text
-same-lengths [] [] h = absurd (h refl)
-same-lengths [] (b ∷ t) h = refl
-same-lengths (a ∷ s) [] h = refl
-same-lengths (a ∷ s) (b ∷ t) h = at (eqb a b) (same-lengths s t (λ e. h (ap suc e)))
+same-by_element [] [] = refl
+same-by_element [] (b ∷ t) = refl
+same-by_element (a ∷ s) [] = refl
+same-by_element (a ∷ s) (b ∷ t) = by-first (eqb a b) (same-by_element s t)
   where
-    at : (e : Bool) → same_text s t ≡ false → cond e (same_text s t) false ≡ false
-    at true f = f
-    at false f = refl
-
-module _ (s t : List ℕ) (i : ℕ) where
-  pub same_next : i < length s → i < length t → get_or s i 0 ≡ get_or t i 0 → same_text (drop i s) (drop i t) ≡ same_text (drop (i + 1) s) (drop (i + 1) t)
-  unfolding same_text
-  same_next h l e = rw (add-one i, drop-cons s i 0 h, drop-cons t i 0 l, eq-eqb (get_or s i 0) (get_or t i 0) e)
-
-  pub same_stop : i < length s → i < length t → (get_or s i 0 ≡ get_or t i 0 → ⊥) → same_text (drop i s) (drop i t) ≡ false
-  unfolding same_text
-  same_stop h l e = rw (drop-cons s i 0 h, drop-cons t i 0 l, ne_eqb (get_or s i 0) (get_or t i 0) e)
-
-  pub same_end : length s ≤ i → length t ≤ i → same_text (drop i s) (drop i t) ≡ true
-  unfolding same_text
-  same_end h l = rw (drop_of_length-le s h, drop_of_length-le t l)
+    by-first : (e : Bool) → pointwise eqb s t ≡ same_text s t → (e && pointwise eqb s t) ≡ cond e (same_text s t) false
+    by-first true f = f
+    by-first false f = refl
 
 -- ---- letters v
 
@@ -173,31 +158,31 @@ module _ (s : List ℕ) (rest : ℕ) (h : rest ≤ length s) where
 -- ---- names
 
 module _ (s : List ℕ) where
-  pub named-1 : either_text s (digit_name 1) (point 1 0) ≡ true → Version V1 ≡ named_version s
+  pub named-1 : either_text s (digit_name 1) (point 1 0) ≡ true → Some V1 ≡ named_version s
   unfolding named_version
   named-1 a = rw a
 
   module _ (a : either_text s (digit_name 1) (point 1 0) ≡ false) where
-    pub named-2 : either_text s (digit_name 2) (point 2 0) ≡ true → Version V2 ≡ named_version s
+    pub named-2 : either_text s (digit_name 2) (point 2 0) ≡ true → Some V2 ≡ named_version s
     unfolding named_version
     named-2 b = rw (a, b)
 
     module _ (b : either_text s (digit_name 2) (point 2 0) ≡ false) where
-      pub named-2-1 : same_text s (point 2 1) ≡ true → Version V2_1 ≡ named_version s
+      pub named-2-1 : same_text s (point 2 1) ≡ true → Some V2_1 ≡ named_version s
       unfolding named_version
       named-2-1 d = rw (a, b, d)
 
       module _ (d : same_text s (point 2 1) ≡ false) where
-        pub named-3 : either_text s (digit_name 3) (point 3 0) ≡ true → Version V3 ≡ named_version s
+        pub named-3 : either_text s (digit_name 3) (point 3 0) ≡ true → Some V3 ≡ named_version s
         unfolding named_version
         named-3 e = rw (a, b, d, e)
 
         module _ (e : either_text s (digit_name 3) (point 3 0) ≡ false) where
-          pub named-3-1 : same_text s (point 3 1) ≡ true → Version V3_1 ≡ named_version s
+          pub named-3-1 : same_text s (point 3 1) ≡ true → Some V3_1 ≡ named_version s
           unfolding named_version
           named-3-1 f = rw (a, b, d, e, f)
 
-          pub named_none : same_text s (point 3 1) ≡ false → Unknown ≡ named_version s
+          pub named_none : same_text s (point 3 1) ≡ false → None ≡ named_version s
           unfolding named_version
           named_none f = rw (a, b, d, e, f)
 

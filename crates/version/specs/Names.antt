@@ -1,9 +1,8 @@
 -- The version that a text names.
-use Rattle.std.specs.Prelude.{Bool, true, false, cond, ◌||◌, List, [], ◌∷◌, ℕ, ◌+◌, eqb}
+use Rattle.std.specs.Prelude.{Bool, true, false, cond, ◌||◌, List, [], ◌∷◌, ℕ, ◌+◌, eqb, Option, Some, None}
+use Rattle.version.specs.declared.SguVersion.{SguVersion}
 use Rattle.version.specs.declared.SguVersion.TheVariants.{V1, V2, V2_1, V3, V3_1}
 use Rattle.version.specs.Spaces.{trim_start, trim_end}
-use Rattle.version.specs.declared.Parsed.{Parsed}
-use Rattle.version.specs.declared.Parsed.TheVariants.{Version, Unknown}
 
 -- the letters v and V
 abbrev pub is_v : ℕ → Bool
@@ -29,14 +28,14 @@ digit_name a = (48 + a) ∷ []
 abbrev pub point : ℕ → ℕ → List ℕ
 point a b = (48 + a) ∷ (46 ∷ ((48 + b) ∷ []))
 
-unfoldable pub named_version : List ℕ → Parsed
+unfoldable pub named_version : List ℕ → Option SguVersion
 named_version s =
-    cond (either_text s (digit_name 1) (point 1 0)) (Version V1)
-    (cond (either_text s (digit_name 2) (point 2 0)) (Version V2)
-    (cond (same_text s (point 2 1)) (Version V2_1)
-    (cond (either_text s (digit_name 3) (point 3 0)) (Version V3)
-    (cond (same_text s (point 3 1)) (Version V3_1)
-    Unknown))))
+    cond (either_text s (digit_name 1) (point 1 0)) (Some V1)
+    (cond (either_text s (digit_name 2) (point 2 0)) (Some V2)
+    (cond (same_text s (point 2 1)) (Some V2_1)
+    (cond (either_text s (digit_name 3) (point 3 0)) (Some V3)
+    (cond (same_text s (point 3 1)) (Some V3_1)
+    None))))
 
-unfoldable pub parse_version : List ℕ → Parsed
+unfoldable pub parse_version : List ℕ → Option SguVersion
 parse_version text = named_version (drop_v (trim_end (trim_start text)))

@@ -5,18 +5,11 @@ mod features;
 mod names;
 mod spaces;
 
-#[derive(Clone, Copy)]
+#[derive(Clone, Copy, Debug, PartialEq, Eq, PartialOrd, Ord)]
 pub enum SguVersion {
     V1,
     V2,
     V2_1,
     V3,
     V3_1,
-}
-
-// What a text names.
-#[derive(Clone, Copy)]
-pub enum Parsed {
-    Version(SguVersion),
-    Unknown,
 }

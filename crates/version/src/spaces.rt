@@ -17,14 +17,7 @@ const THREE: [u32; 17] = [
 fn among(n: u32, table: &[u32]) -> bool
     ensures { result ≡ among_in n table.now }
 {
-    let mut i = 0;
-    while i < table.len() {
-        if table[i] == n {
-            return true;
-        }
-        i += 1;
-    }
-    false
+    table.contains(&n)
 }
 
 // The bytes of a white space, by the numbers that one, two and three bytes make: 0 where there is none.
@@ -71,20 +64,14 @@ fn leading(s: &[u8]) -> usize
     space_width(one_at(s, 0), two_at(s, 0), three_at(s, 0))
 }
 
-fn less(a: usize, b: usize) -> usize
-    ensures { result ≡ a - b }
-{
-    if b < a { a - b } else { 0 }
-}
-
 fn trailing(s: &[u8]) -> usize
     ensures { result ≡ trailing_of s.now }
 {
     let n = s.len();
     space_width(
-        one_at(s, less(n, 1)),
-        two_at(s, less(n, 2)),
-        three_at(s, less(n, 3)),
+        one_at(s, n.saturating_sub(1)),
+        two_at(s, n.saturating_sub(2)),
+        three_at(s, n.saturating_sub(3)),
     )
 }
 
@@ -94,14 +81,12 @@ pub(crate) fn text_start(s: &[u8]) -> usize
 {
     let n = s.len();
     let mut rest = n;
-    let mut left = n;
-    while 0 < left {
+    for _turn in 0..n {
         let w = leading(num::tail(s, n - rest));
         if w == 0 {
             return n - rest;
         }
-        rest = less(rest, w);
-        left -= 1;
+        rest = rest.saturating_sub(w);
     }
     n - rest
 }
@@ -109,15 +94,14 @@ pub(crate) fn text_start(s: &[u8]) -> usize
 pub(crate) fn text_end(s: &[u8]) -> usize
     ensures { take result s.now ≡ trim_end s.now }
 {
-    let mut rest = s.len();
-    let mut left = s.len();
-    while 0 < left {
+    let n = s.len();
+    let mut rest = n;
+    for _turn in 0..n {
         let w = trailing(num::part(s, 0, rest));
         if w == 0 {
             return rest;
         }
-        rest = less(rest, w);
-        left -= 1;
+        rest = rest.saturating_sub(w);
     }
     rest
 }

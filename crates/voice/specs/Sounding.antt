@@ -6,7 +6,6 @@ use Rattle.tone.specs.Pcm.{loops}
 use Rattle.version.specs.Versions.{has34si22, interpolates}
 use Rattle.version.specs.declared.SguVersion.{SguVersion}
 use Rattle.registers.specs.Pcm.{set_active}
-use Rattle.registers.specs.declared.WaveformType.TheVariants as waveforms
 use Rattle.stream.specs.Window.{window_of}
 use Rattle.stream.specs.declared.Play.{Play}
 use Rattle.stream.specs.declared.Window.{Window}

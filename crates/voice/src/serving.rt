@@ -20,7 +20,7 @@ impl Served {
         );
         let sides = old.with_stream_value(q8, g.volume, g.panpot);
         Served {
-            ticks: std::num::wrapping_add_usize(self.ticks, 1),
+            ticks: self.ticks.wrapping_add(1),
             phase: tone::stepped(self.phase, p.step),
             q8,
             sides,

@@ -4,7 +4,7 @@ use mathlib.Core.Bool.{Bool, true, false, cond}
 use mathlib.Core.List.{List}
 use Prim.Native.Nat.{ℕ, ◌+◌, ◌*◌, ◌-◌, ◌≤◌, ◌<◌}
 use native.Mathlib.Numerals.{add-one}
-use lib.Dec.{leb, ltb}
+use lib.Dec.{leb}
 use lib.IntN.{ℤ}
 use lib.ListN.{length, take, drop, set, get_or}
 use borrow.Author.Tests.{lt-ltb, le-ltb, eq-eqb, ne_eqb}
@@ -13,15 +13,13 @@ use Rattle.sizes.specs.Sizes.{fifo_capacity, num_channels, queue_buffer, registe
 use Rattle.version.specs.declared.SguVersion.{SguVersion}
 use Rattle.voice.specs.Writes.{empties_cache, write_control, write_control_entries, write_pcm_reg}
 use Rattle.voice.specs.declared.Channel.{Channel}
-use Rattle.voice.proofs.Tests.{first-arm, second-arm}
 use Rattle.voices.specs.Addresses.{channel_of, offset_of, is_control}
 use Rattle.voices.specs.Core.{channel_at, set_wavetables, stored_channel}
-use Rattle.voices.specs.Writes.{write_channel_control, write_channel_control_queues, write_channel_pcm_reg, write_wavetable, write_block, write_block_queues, write_register, write_register_queues, after_ram_write_at, after_ram_write_to}
+use Rattle.voices.specs.Writes.{write_channel_control, write_channel_control_queues, write_channel_pcm_reg, write_wavetable, write_block, write_block_queues, write_register, write_register_queues, after_ram_write}
 use Rattle.voices.specs.Lists.{block_channel, block_entries, block_empties, after_ram_writes}
 use Rattle.voices.specs.declared.Core.{Core}
 use Rattle.voices.proofs.Chosen.{write-in, write-pcm-in, register-low, register-block, register-above, register-queues-low, register-queues-block, register-queues-above}
 use Rattle.voices.proofs.Storing.{voice-queues}
-use Rattle.voices.proofs.Loops.{ram-more}
 
 -- ---- a block's offset
 module _ (offset : ℕ) where
@@ -105,48 +103,16 @@ module _ (version : SguVersion) (k : Core) (q : List ℤ) (address value : ℕ) 
   pub wrote-above : wavetables_size ≤ address → registers_end ≤ address → r ≡ k → l ≡ q → Wrote version k q address value r l
   wrote-above g h e f = record { core = e ∙ register-above version k address value g h; queues = f ∙ register-queues-above version k address value q g h }
 
--- ---- byte after byte
-module _ (ram : ℕ) (addresses : List ℕ) (k : Core) where
-  -- before channel ch of byte i
-  abbrev pub emptied_to : ℕ → ℕ → Core
-  emptied_to i ch =
-      cond (ltb (get_or addresses i 0) ram) (after_ram_write_to ch (after_ram_writes ram i addresses k) (get_or addresses i 0)) (after_ram_writes ram i addresses k)
+-- ---- byte after byte: a core that has the first i of them
+pub none-stored : (ram : ℕ) (addresses : List ℕ) (k : Core) → k ≡ after_ram_writes ram 0 addresses k
+unfolding after_ram_writes
+none-stored ram addresses k = refl
 
-  pub byte-begins : (i : ℕ) (r : Core) → r ≡ after_ram_writes ram i addresses k → r ≡ emptied_to i 0
-  unfolding after_ram_write_to
-  byte-begins i r e = e ∙ by (ltb (get_or addresses i 0) ram)
-    where
-      by : (t : Bool) → after_ram_writes ram i addresses k ≡ cond t (after_ram_writes ram i addresses k) (after_ram_writes ram i addresses k)
-      by true = refl
-      by false = refl
-
-  pub no_byte : k ≡ emptied_to 0 0
+module _ (ram : ℕ) (addresses : List ℕ) (k : Core) (i : ℕ) (b x : Core) (e : b ≡ after_ram_writes ram i addresses k) where
+  pub byte-in : get_or addresses i 0 < ram → x ≡ after_ram_write b (get_or addresses i 0) → x ≡ after_ram_writes ram (i + 1) addresses k
   unfolding after_ram_writes
-  no_byte = byte-begins 0 k refl
+  byte-in h w = w ∙ ap (λ (y : Core). after_ram_write y (get_or addresses i 0)) e ∙ rw (add-one i, lt-ltb (get_or addresses i 0) ram h) refl
 
-  pub byte-over : (i ch : ℕ) (r : Core) → r ≡ emptied_to i ch → ch ≡ 8 → r ≡ emptied_to (i + 1) 0
+  pub byte-out : ram ≤ get_or addresses i 0 → x ≡ b → x ≡ after_ram_writes ram (i + 1) addresses k
   unfolding after_ram_writes
-  byte-over i ch r e h = byte-begins (i + 1) r (e ∙ ap (emptied_to i) h ∙ ap (λ (m : ℕ). after_ram_writes ram m addresses k) (sym (add-one i)))
-
-  pub every_byte : (i n ch : ℕ) (r : Core) → r ≡ emptied_to i ch → i ≡ n → ch ≡ 0 → r ≡ after_ram_writes ram n addresses k
-  unfolding after_ram_write_to
-  every_byte i n ch r e h z = e ∙ ap (emptied_to i) z ∙ by (ltb (get_or addresses i 0) ram) ∙ ap (λ (m : ℕ). after_ram_writes ram m addresses k) h
-    where
-      by : (t : Bool) → cond t (after_ram_writes ram i addresses k) (after_ram_writes ram i addresses k) ≡ after_ram_writes ram i addresses k
-      by true = refl
-      by false = refl
-
-  module _ (i ch : ℕ) (r x : Core) (e : r ≡ emptied_to i ch) where
-    pub byte-in : get_or addresses i 0 < ram → x ≡ after_ram_write_at (get_or addresses i 0) r ch → x ≡ emptied_to i (ch + 1)
-    byte-in h w =
-        let t = lt-ltb (get_or addresses i 0) ram h in
-        let b = after_ram_writes ram i addresses k in
-        ram-more (get_or addresses i 0) b r x ch (e ∙ sym (first-arm (ltb (get_or addresses i 0) ram) (after_ram_write_to ch b (get_or addresses i 0)) b t)) w
-        ∙ first-arm (ltb (get_or addresses i 0) ram) (after_ram_write_to (ch + 1) b (get_or addresses i 0)) b t
-
-    pub byte-out : ram ≤ get_or addresses i 0 → x ≡ r → x ≡ emptied_to i (ch + 1)
-    byte-out h w =
-        let t = le-ltb (get_or addresses i 0) ram h in
-        let b = after_ram_writes ram i addresses k in
-        w ∙ e ∙ sym (second-arm (ltb (get_or addresses i 0) ram) (after_ram_write_to ch b (get_or addresses i 0)) b t)
-        ∙ second-arm (ltb (get_or addresses i 0) ram) (after_ram_write_to (ch + 1) b (get_or addresses i 0)) b t
+  byte-out h w = w ∙ e ∙ rw (add-one i, le-ltb (get_or addresses i 0) ram h) refl

@@ -8,11 +8,11 @@ use sizes::{NUM_CHANNELS, WAVETABLES_SIZE};
 use version::SguVersion;
 use voice::Channel;
 
-impl Core {
-    // Eight voices that were just made.
-    pub fn default() -> Core
-        ensures { result ≡ fresh_core }
-    {
+// Eight voices that were just made.
+impl Default for Core {
+    ghost is_default = { λ core. core ≡ fresh_core };
+
+    fn default() -> Core {
         let c = Channel::default();
         Core {
             channels: [c; 8],
@@ -20,7 +20,9 @@ impl Core {
             wavetables: [0x80u8; WAVETABLES_SIZE],
         }
     }
+}
 
+impl Core {
     fn reset_wavetable(self, ch: usize) -> Core
         requires { ch < num_channels }
         ensures { result ≡ set_wavetables self (no_wavetable ch self.wavetables) }

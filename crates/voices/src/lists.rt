@@ -3,7 +3,6 @@ ghost use Rattle.std.specs.Prelude.{◌≡◌, length};
 ghost use Rattle.voices.specs.Lists.{block_channel, block_entries, block_empties, after_ram_writes};
 
 use crate::Core;
-use crate::stored::clear_fragments;
 use version::SguVersion;
 use voice::Channel;
 
@@ -45,22 +44,9 @@ impl Core {
         ensures { result ≡ after_ram_writes ram (length addresses.now) addresses.now self }
     {
         let mut core = self;
-        let mut i: usize = 0;
-        let mut ch: usize = 0;
-        while i < addresses.len() {
-            let address = addresses[i];
-            if (address as usize) < ram {
-                let c = core.channels[ch];
-                if c.streams_from(address) {
-                    core.channels[ch] = c.invalidate_sqv4();
-                    clear_fragments(&mut core.fragments, ch);
-                }
-            }
-            if ch < 7 {
-                ch += 1;
-            } else {
-                ch = 0;
-                i += 1;
+        for address in addresses {
+            if (*address as usize) < ram {
+                core.forget(*address);
             }
         }
         core

@@ -8,6 +8,7 @@ ghost use Rattle.voices.specs.Writes.{after_ram_write};
 use crate::Core;
 use crate::addresses::{channel_of, offset_of};
 use crate::lists::{empties, write_at};
+use crate::stored::clear_fragments;
 use sizes::{FIFO_CAPACITY, NUM_CHANNELS, QUEUE_BUFFER, WAVETABLES_SIZE};
 use version::SguVersion;
 use voice::Channel;
@@ -124,16 +125,23 @@ impl Core {
     }
 
     // The cache of each voice whose stream has that byte is emptied.
-    pub fn after_ram_write(self, address: u32) -> Core
-        ensures { result ≡ after_ram_write self address }
+    pub(crate) fn forget(&mut self, address: u32)
+        ensures { self.new ≡ after_ram_write self.old address }
     {
-        let mut core = self;
         for ch in 0usize..8 {
-            let c = core.channels[ch];
+            let c = self.channels[ch];
             if c.streams_from(address) {
-                core = core.stored(ch, c.invalidate_sqv4(), true);
+                self.channels[ch] = c.invalidate_sqv4();
+                clear_fragments(&mut self.fragments, ch);
             }
         }
-        core
+    }
+
+    // The voices after that byte was written to the RAM.
+    pub fn after_ram_write(mut self, address: u32) -> Core
+        ensures { result ≡ after_ram_write self address }
+    {
+        self.forget(address);
+        self
     }
 }

@@ -25,10 +25,8 @@ pub fn put_samples(out: &mut [u8], at: usize, samples: &[i16]) -> usize
     ensures { Put out.old out.new at (samples_bytes samples.now) result }
 {
     let mut end = num::least(at, out.len());
-    let mut i = 0;
-    while i < samples.len() {
-        end = put_sample(out, end, samples[i]);
-        i += 1;
+    for sample in samples {
+        end = put_sample(out, end, *sample);
     }
     end
 }
@@ -40,10 +38,8 @@ pub fn put_sides(out: &mut [u8], at: usize, left: &[i16], right: &[i16]) -> usiz
 {
     let frames = num::least(left.len(), right.len());
     let mut end = num::least(at, out.len());
-    let mut i = 0;
-    while i < frames {
+    for i in 0..frames {
         end = put_frame(out, end, left[i], right[i]);
-        i += 1;
     }
     end
 }
@@ -58,11 +54,9 @@ pub fn put_channel(out: &mut [u8], at: usize, stems: &[i16], channel: usize) -> 
         return end;
     }
     let frames = stems.len() / STEMS;
-    let mut i = 0;
-    while i < frames {
+    for i in 0..frames {
         let left = STEMS * i + 2 * channel;
         end = put_frame(out, end, stems[left], stems[left + 1]);
-        i += 1;
     }
     end
 }

@@ -1,9 +1,6 @@
-use Rattle.std.proofs.Common.{◌≡◌, ◌+◌, ◌-◌, ◌*◌, ◌≤◌}
+use Rattle.std.proofs.Common.{◌≡◌, ◌+◌, ◌*◌}
 use Rattle.adpcm.specs.Codes.{overlaid}
 use Rattle.adpcm.proofs.overlay.Given as goal
 
 abbrev pub invariant-loop-i : goal.invariant-loop-i
-invariant-loop-i l = (l.i ≤ l.bytes) × (l.code ≡ overlaid l.input (8 * l.at + l.within) l.i)
-
-abbrev pub decreases-loop-i : goal.decreases-loop-i
-decreases-loop-i l = l.bytes - l.i
+invariant-loop-i l = l.code ≡ overlaid l.input (8 * l.at + l.within) l.i

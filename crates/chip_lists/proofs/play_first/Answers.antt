@@ -26,7 +26,7 @@ pub returns-then-not-played : goal.returns-then-not-played
 returns-then-not-played c =
     let a = c.args in
     let k = c.play-played.ensures in
-    let r = c.refusal_of_list-refusal in
+    let r = c.refusal_without_stems-refusal in
     let barred = sym k.made ∙ not-true _ c.if-not-played.true in
     let o = sym (shut a.kinds.now a.addresses.now (length a.stems.now) (lent_first a.chip a.ram.now a.queues.now a.values.now) barred) in
     let lower = k.queues ∙ ap (λ (x : Listed). x.queues) o in

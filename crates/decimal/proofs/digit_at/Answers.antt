@@ -1,12 +1,13 @@
-use mathlib.Core.Path.{sym}
-use Rattle.decimal.proofs.Reading.{digit-out, digit-below, digit-from}
+use mathlib.Core.Path.{◌≡◌, ap, ◌∙◌}
+use Prim.Native.Nat.{ℕ}
+use native.Mathlib.Omega.{arith}
+use Rattle.std.specs.Char.{is_ascii_digit}
+use Rattle.decimal.specs.Read.{digit, digit_at}
 use Rattle.decimal.proofs.digit_at.Goals as goal
 
-pub returns-then-c-lt48 : goal.returns-then-c-lt48
-returns-then-c-lt48 c = sym (digit-below _ _ c.if-c-lt48.true)
+same : (c : ℕ) → is_ascii_digit c ≡ digit c
+same c = grind arith
 
-pub returns-else-c-lt48 : goal.returns-else-c-lt48
-returns-else-c-lt48 c = sym (digit-from _ _ c.if-c-lt48.false)
-
-pub returns-else-i-text : goal.returns-else-i-text
-returns-else-i-text c = sym (digit-out _ _ c.if-i-text.false)
+pub returns : goal.returns
+unfolding digit_at
+returns c = c.is_ascii_digit.ensures.value ∙ same c.byte_at.result ∙ ap digit c.byte_at.ensures

@@ -1,9 +1,7 @@
+use mathlib.Core.Path.{refl}
 use native.Mathlib.Omega.{arith}
-use Rattle.decimal.proofs.Writing.{put_next}
+use Rattle.decimal.proofs.Writing.{put-copied}
 use Rattle.decimal.proofs.put_text.Goals as goal
 
-pub loop-i-preserved : goal.loop-i-preserved
-loop-i-preserved c = (
-  omega arith,
-  put_next _ _ _ c.args.text.now _ _ _ c.loop-i.i c.loop-i-test.true c.loop-i.invariant.1 c.put_byte-end.ensures,
-)
+pub returns : goal.returns
+returns c = put-copied _ _ _ _ _ _ _ _ c.least-start.ensures c.least-count.ensures (omega arith) c.copy_from_slice.ensures.after refl

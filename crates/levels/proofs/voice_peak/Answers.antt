@@ -15,7 +15,7 @@ loop-i-preserved c =
     let at = 16 * c.loop-i.i + 2 * c.args.channel in
     let x : SFits w16 (get_or c.args.stems.now at (pos 0)) = search rules in
     let y : SFits w16 (get_or c.args.stems.now (at + 1) (pos 0)) = search rules in
-    (omega arith, peak-next _ _ _ _ _ _ c.args.channel c.loop-i.i c.args.stems.now (rw (back w16 _ x) at c.size.ensures) (rw (back w16 _ y) at c.size-in-loop-i.ensures) c.loop-i.invariant.1 c.larger-largest.ensures c.larger-largest-in-loop-i.ensures)
+    (omega arith, peak-next _ _ c.max-largest.result _ _ _ c.args.channel c.loop-i.i c.args.stems.now (rw (back w16 _ x) at c.unsigned_abs.ensures.value) (rw (back w16 _ y) at c.unsigned_abs-in-loop-i.ensures.value) c.loop-i.invariant.1 (search rules) (search rules))
 
 pub returns : goal.returns
 returns c =

@@ -1,9 +1,6 @@
 use Rattle.levels.specs.Levels.{stem_peak}
-use Rattle.std.proofs.Common.{◌≡◌, ◌-◌, ◌≤◌}
+use Rattle.std.proofs.Common.{◌≡◌, ◌≤◌}
 use Rattle.levels.proofs.voice_peak.Given as goal
 
 abbrev pub invariant-loop-i : goal.invariant-loop-i
 invariant-loop-i l = (l.i ≤ l.frames) × (l.largest ≡ stem_peak l.before l.stems l.channel l.i)
-
-abbrev pub decreases-loop-i : goal.decreases-loop-i
-decreases-loop-i l = l.frames - l.i

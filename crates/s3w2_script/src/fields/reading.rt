@@ -1,40 +1,32 @@
 // A line's fields.
-use decimal::TakenNatural;
+use decimal::Numeral;
 use version::SguVersion;
 
 // The field behind the comma at a place.
-fn take(text: &[u8], at: usize) -> TakenNatural {
+fn take(text: &[u8], at: usize) -> Numeral<u64> {
     if num::byte_at(text, at) != b',' {
-        return TakenNatural::NoNatural;
+        return None;
     }
     let first = std::num::wrapping_add_usize(at, 1);
     if num::byte_at(text, first) != b'-' {
         return decimal::take_natural(text, first);
     }
-    let size = decimal::take_natural(text, std::num::wrapping_add_usize(at, 2));
-    let TakenNatural::Natural { value, next } = size else {
-        return TakenNatural::NoNatural;
-    };
-    TakenNatural::Natural {
-        value: std::num::wrapping_sub_u64(0, value),
-        next,
-    }
+    let (value, next) = decimal::take_natural(text, std::num::wrapping_add_usize(at, 2))?;
+    Some((std::num::wrapping_sub_u64(0, value), next))
 }
 
 // Puts the fields behind the line's letter, as far as there is room, and answers how many fields there are with it.
 pub(crate) fn parse(text: &[u8], f: &mut [u64]) -> usize {
     let mut at = 1;
-    let mut k = 1;
-    while k < f.len() {
+    for k in 1..f.len() {
         let taken = take(text, at);
-        let TakenNatural::Natural { value, next } = taken else {
+        let Some((value, next)) = taken else {
             return k;
         };
         f[k] = value;
         at = next;
-        k += 1;
     }
-    k
+    f.len()
 }
 
 // The first fields.
@@ -70,5 +62,5 @@ pub(crate) fn letter(line: &[u64]) -> u8 {
 }
 
 pub(crate) fn version(line: &[u64]) -> SguVersion {
-    SguVersion::numbered(long(line, 1))
+    SguVersion::from(long(line, 1))
 }

@@ -14,23 +14,23 @@ pub(crate) fn wide(high: u16, low: u16) -> i32 {
     tone::wrapping_add(tone::wrapping_add(half, half), low as i32)
 }
 
-// Puts samples from a seed, or zeros, from a place to before another, and answers the seed after them.
-pub(crate) fn fill(samples: &mut [i16], from: usize, to: usize, seed: u64, loud: bool) -> u64 {
+// Puts samples from a seed, and answers the seed after them.
+pub(crate) fn fill(samples: &mut [i16], seed: u64) -> u64 {
     let mut x = seed;
-    for i in from..num::least(to, samples.len()) {
+    for sample in samples.iter_mut() {
         x = next_seed(x);
-        samples[i] = if loud { num::signed16(bits_of(x)) } else { 0 };
+        *sample = num::signed16(bits_of(x));
     }
     x
 }
 
-// The same of 32 bits, all of them; each takes two steps of the seed.
+// The same of 32 bits; each takes two steps of the seed.
 pub(crate) fn fill_wide(samples: &mut [i32], seed: u64) -> u64 {
     let mut x = seed;
-    for i in 0..samples.len() {
+    for sample in samples.iter_mut() {
         let y = next_seed(x);
         x = next_seed(y);
-        samples[i] = wide(bits_of(y), bits_of(x));
+        *sample = wide(bits_of(y), bits_of(x));
     }
     x
 }

@@ -1,10 +1,13 @@
 // A voice's state, and its cache, set whole.
+ghost use Rattle.std.specs.Prelude.{◌+◌, ◌≤◌};
+ghost use Rattle.sizes.specs.Sizes.{fifo_capacity};
+
 use crate::fields::{reading as fields, seeds};
 use adpcm::{State, Variant};
-use cores::{CHIP_QUEUES, CHIP_VOICES};
+use cores::CHIP_QUEUES;
 use registers::{Fifo, ModulationType, PcmRegisters, Registers, WaveformType};
 use sizes::{FIFO_CAPACITY, WAVETABLES_SIZE};
-use stream::{Cached, Held, Info, StreamCache};
+use stream::{Info, StreamCache};
 use ticks::Oscillator;
 use voice::Channel;
 use voices::Core;
@@ -55,32 +58,27 @@ fn fifo_of(line: &[u64]) -> Fifo {
     }
 }
 
-// Where a voice's queue lies in the queue buffer: the entries from `from` to before `to` are the oldest, those from `again` to
-// before `end` follow them.
+// Where a voice's queue lies among its own entries of the queue buffer: so many of the oldest from `head` on, the others from the
+// beginning on.
 #[derive(Clone, Copy)]
 pub(crate) struct Ring {
-    pub from: usize,
-    pub to: usize,
-    pub again: usize,
-    pub end: usize,
+    pub head: usize,
+    pub oldest: usize,
+    pub others: usize,
 }
 
-pub(crate) fn ring_of(voice: usize, fifo: Fifo) -> Ring {
+pub(crate) fn ring_of(fifo: Fifo) -> Ring
+    ensures oldest { result.head + result.oldest ≤ fifo_capacity }
+    ensures others { result.others ≤ fifo_capacity }
+{
     let head = fifo.head % FIFO_CAPACITY;
     let count = num::least(fifo.count, FIFO_CAPACITY);
     let oldest = num::least(count, FIFO_CAPACITY - head);
-    let again = voice % CHIP_VOICES * FIFO_CAPACITY;
     Ring {
-        from: again + head,
-        to: again + head + oldest,
-        again,
-        end: again + (count - oldest),
+        head,
+        oldest,
+        others: count - oldest,
     }
-}
-
-fn fill_ring(queues: &mut [i16], r: Ring, seed: u64) {
-    let x = seeds::fill(&mut *queues, r.from, r.to, seed, true);
-    seeds::fill(queues, r.again, r.end, x, true);
 }
 
 // Puts the entries of the queue that an E line tells of a core's voice, oldest first, from its seed.
@@ -88,43 +86,45 @@ pub(crate) fn fill_queue(queues: &mut [i16], core: usize, line: &[u64]) {
     if fields::letter(line) == b'E' {
         if CHIP_QUEUES <= queues.len() {
             let voice = 8 * (core % 2) + fields::size(line, 1) % 8;
-            fill_ring(
-                queues,
-                ring_of(voice, fifo_of(line)),
-                fields::long(line, 28),
-            );
+            let from = voice * FIFO_CAPACITY;
+            let own = &mut queues[from..from + FIFO_CAPACITY];
+            let r = ring_of(fifo_of(line));
+            let end = r.head + r.oldest;
+            let seed = seeds::fill(&mut own[r.head..end], fields::long(line, 28));
+            seeds::fill(&mut own[..r.others], seed);
         }
     }
 }
 
 // The voice's wavetable from a seed; from 0 that of a fresh voice.
 fn fill_wavetable(wavetables: &mut [u8; WAVETABLES_SIZE], ch: usize, seed: u64) {
+    let at = ch % 8 * 256;
+    let own = &mut wavetables[at..at + 256];
+    if seed == 0 {
+        own.fill(128);
+        return;
+    }
     let mut x = seed;
-    for i in 0usize..256 {
+    for byte in own.iter_mut() {
         x = seeds::next_seed(x);
-        let at = ch % 8 * 256 + i;
-        wavetables[at] = if seed == 0 {
-            128
-        } else {
-            (seeds::bits_of(x) % 256) as u8
-        };
+        *byte = (seeds::bits_of(x) % 256) as u8;
     }
 }
 
-fn held_of(n: u64) -> Held {
+fn held_of(n: u64) -> Option<Variant> {
     match n {
-        1 => Held::Is(Variant::H),
-        2 => Held::Is(Variant::L),
-        3 => Held::Is(Variant::LPlus),
-        _ => Held::Nothing,
+        1 => Some(Variant::H),
+        2 => Some(Variant::L),
+        3 => Some(Variant::LPlus),
+        _ => None,
     }
 }
 
-fn cached_of(n: u64) -> Cached {
+fn cached_of(n: u64) -> Option<usize> {
     if n == 0 {
-        return Cached::Nothing;
+        return None;
     }
-    Cached::Frame((n - 1) as usize)
+    Some((n - 1) as usize)
 }
 
 fn cache_of(line: &[u64]) -> StreamCache {
@@ -151,7 +151,12 @@ fn cache_of(line: &[u64]) -> StreamCache {
 // The voice's decoded samples from a seed; from 0 they are 0.
 fn fill_fragments(fragments: &mut [i16; 1024], ch: usize, seed: u64) {
     let at = ch % 8 * 128;
-    seeds::fill(fragments, at, at + 128, seed, seed != 0);
+    let own = &mut fragments[at..at + 128];
+    if seed == 0 {
+        own.fill(0);
+        return;
+    }
+    seeds::fill(own, seed);
 }
 
 // The voice that an E line tells, with the cache that it had, or with the cache that an F line tells.

@@ -3,21 +3,20 @@ use crate::fields::reading::{letter, size};
 use crate::fields::setting::ring_of;
 use crate::fields::writing;
 use adpcm::Variant;
-use cores::CHIP_QUEUES;
+use cores::{CHIP_QUEUES, CHIP_VOICES};
 use registers::{Fifo, PcmRegisters, Registers};
-use stream::{Cached, Held, StreamCache};
+use sizes::FIFO_CAPACITY;
+use stream::StreamCache;
 use voice::Channel;
 use voices::Core;
 
 fn registers_numbers(g: Registers) -> [u64; 9] {
-    let waveform = g.waveform_type;
-    let modulation = g.modulation_type;
     [
         g.frequency as u64,
-        waveform.number() as u64,
+        u8::from(g.waveform_type) as u64,
         g.volume as u64,
         g.panpot as u64,
-        modulation.number() as u64,
+        u8::from(g.modulation_type) as u64,
         g.modulation_target as u64,
         g.modulation_targeting_mode as u64,
         g.modulation_param_1 as u64,
@@ -52,21 +51,19 @@ fn moving_numbers(c: Channel) -> [u64; 8] {
     ]
 }
 
-fn held_number(held: Held) -> u64 {
-    let Held::Is(variant) = held else {
-        return 0;
-    };
-    match variant {
-        Variant::H => 1,
-        Variant::L => 2,
-        Variant::LPlus => 3,
+fn held_number(held: Option<Variant>) -> u64 {
+    match held {
+        None => 0,
+        Some(Variant::H) => 1,
+        Some(Variant::L) => 2,
+        Some(Variant::LPlus) => 3,
     }
 }
 
-fn cached_number(cached: Cached) -> u64 {
+fn cached_number(cached: Option<usize>) -> u64 {
     match cached {
-        Cached::Nothing => 0,
-        Cached::Frame(f) => std::num::wrapping_add_u64(f as u64, 1),
+        None => 0,
+        Some(f) => (f as u64).wrapping_add(1),
     }
 }
 
@@ -95,8 +92,8 @@ fn cache_numbers(s: StreamCache) -> [u64; 12] {
 fn put_registers(out: &mut [u8], at: usize, c: Channel) -> usize {
     let registers = registers_numbers(c.registers);
     let pcm = pcm_numbers(c.pcm);
-    let end = writing::put_numbers(&mut *out, at, &registers, 9);
-    writing::put_numbers(out, end, &pcm, 6)
+    let end = writing::put_numbers(&mut *out, at, &registers);
+    writing::put_numbers(out, end, &pcm)
 }
 
 // The phase may be any number of 64 bits.
@@ -106,8 +103,8 @@ fn put_channel(out: &mut [u8], at: usize, c: Channel) -> usize {
     let cache = cache_numbers(c.stream);
     let first = put_registers(&mut *out, at, c);
     let second = writing::put(&mut *out, first, oscillator.phase);
-    let third = writing::put_numbers(&mut *out, second, &moving, 8);
-    writing::put_numbers(out, third, &cache, 12)
+    let third = writing::put_numbers(&mut *out, second, &moving);
+    writing::put_numbers(out, third, &cache)
 }
 
 // The queue's count and its entries, oldest first.
@@ -116,9 +113,11 @@ fn put_queue(out: &mut [u8], at: usize, f: Fifo, queues: &[i16], voice: usize) -
     if queues.len() < CHIP_QUEUES {
         return first;
     }
-    let r = ring_of(voice, f);
-    let second = writing::put_samples(&mut *out, first, queues, r.from, r.to);
-    writing::put_samples(out, second, queues, r.again, r.end)
+    let from = voice % CHIP_VOICES * FIFO_CAPACITY;
+    let own = &queues[from..from + FIFO_CAPACITY];
+    let r = ring_of(f);
+    let second = writing::put_samples(&mut *out, first, &own[r.head..r.head + r.oldest]);
+    writing::put_samples(out, second, &own[..r.others])
 }
 
 // A voice's registers, its state and its wavetable.
@@ -138,7 +137,8 @@ fn put_last(core: Core, voice: usize, queues: &[i16], out: &mut [u8], at: usize)
     let ch = voice % 8;
     let c = core.channels[ch];
     let end = put_queue(&mut *out, at, c.fifo, queues, voice);
-    writing::put_samples(out, end, &core.fragments, 128 * ch, 128 * ch + 128)
+    let fragments = core.fragments;
+    writing::put_samples(out, end, &fragments[128 * ch..128 * ch + 128])
 }
 
 // Puts the voice that a D line names, of the core of a number; of another line nothing.

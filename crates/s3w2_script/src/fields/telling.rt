@@ -1,20 +1,19 @@
 // What lines tell of no chip.
 use crate::fields::reading::{byte, letter, word};
-use crate::fields::{Given, writing};
-use version::{Parsed, SguVersion};
+use crate::fields::{Figures, writing};
+use version::SguVersion;
 
 // The version that the line's bytes name, 64 of them at most; 9 for none.
 fn named(line: &[u64]) -> u8 {
     let mut name = [0u8; 64];
-    for i in 0usize..64 {
-        name[i] = byte(line, i + 1);
+    for (i, letter) in name.iter_mut().enumerate() {
+        *letter = byte(line, i + 1);
     }
     let count = std::num::wrapping_sub_usize(line.len(), 1);
-    let parsed = SguVersion::parse(num::part(&name, 0, count));
-    let Parsed::Version(version) = parsed else {
-        return 9;
-    };
-    version.number()
+    match SguVersion::parse(num::part(&name, 0, count)) {
+        Some(version) => u8::from(version),
+        None => 9,
+    }
 }
 
 fn summed(sum: u32, x: u8) -> u32 {
@@ -24,8 +23,8 @@ fn summed(sum: u32, x: u8) -> u32 {
 // A sum over the RAM.
 fn sum_of(ram: &[u8]) -> u32 {
     let mut sum = 0u32;
-    for i in 0..ram.len() {
-        sum = summed(sum, ram[i]);
+    for x in ram {
+        sum = summed(sum, *x);
     }
     sum
 }
@@ -50,16 +49,13 @@ fn number_told(line: &[u64], ram: &[u8]) -> u64 {
 }
 
 // What a line tells: a number, or of a version two.
-pub(crate) fn told(line: &[u64], ram: &[u8]) -> Given {
+pub(crate) fn told(line: &[u64], ram: &[u8]) -> Figures {
     if letter(line) != b'u' {
-        return writing::one(number_told(line, ram));
+        return Figures::One(number_told(line, ram));
     }
     let version = crate::fields::reading::version(line);
-    Given {
-        numbers: [
-            version.core_count() as u64,
-            writing::flag_number(version.has_34si22()),
-        ],
-        count: 2,
-    }
+    Figures::Two(
+        version.core_count() as u64,
+        writing::flag_number(version.has_34si22()),
+    )
 }

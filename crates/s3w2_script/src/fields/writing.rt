@@ -1,5 +1,5 @@
 // An answer's fields, each after a comma, and samples as numbers.
-use crate::fields::Given;
+use crate::fields::Figures;
 
 // A number in two's complement.
 pub(crate) fn bits(x: i32) -> u64 {
@@ -8,14 +8,6 @@ pub(crate) fn bits(x: i32) -> u64 {
         return std::num::wrapping_sub_u64(0, size);
     }
     size
-}
-
-// An answer of one number.
-pub(crate) fn one(n: u64) -> Given {
-    Given {
-        numbers: [n, 0],
-        count: 1,
-    }
 }
 
 pub(crate) fn flag_number(x: bool) -> u64 {
@@ -37,52 +29,49 @@ fn put_number(out: &mut [u8], at: usize, n: u64) -> usize {
     decimal::put_natural(out, end, std::num::wrapping_sub_u64(0, n))
 }
 
-// Puts the first of some numbers.
-pub(crate) fn put_numbers(out: &mut [u8], at: usize, numbers: &[u64], count: usize) -> usize {
+pub(crate) fn put_numbers(out: &mut [u8], at: usize, numbers: &[u64]) -> usize {
     let mut end = at;
-    for i in 0..num::least(count, numbers.len()) {
-        end = put_number(&mut *out, end, numbers[i]);
+    for n in numbers {
+        end = put_number(&mut *out, end, *n);
     }
     end
 }
 
-// Puts an answer's numbers; of a refusal its word before them.
-pub(crate) fn put_given(out: &mut [u8], at: usize, given: Given, refused: bool) -> usize {
-    let numbers = given.numbers;
-    if refused {
-        let end = decimal::put_text(&mut *out, at, b",no");
-        return put_numbers(out, end, &numbers, given.count);
+// Puts an answer's numbers.
+pub(crate) fn put_figures(out: &mut [u8], at: usize, figures: Figures) -> usize {
+    match figures {
+        Figures::Nothing => at,
+        Figures::One(n) => put_number(out, at, n),
+        Figures::Two(n, m) => {
+            let end = put_number(&mut *out, at, n);
+            put_number(out, end, m)
+        }
     }
-    put_numbers(out, at, &numbers, given.count)
+}
+
+// Puts those of a refusal, behind its word.
+pub(crate) fn put_refused(out: &mut [u8], at: usize, figures: Figures) -> usize {
+    let end = decimal::put_text(&mut *out, at, b",no");
+    put_figures(out, end, figures)
 }
 
 pub(crate) fn sample_bits(x: i16) -> u64 {
     bits(x as i32)
 }
 
-// Puts the samples from a place to before another.
-pub(crate) fn put_samples(
-    out: &mut [u8],
-    at: usize,
-    samples: &[i16],
-    from: usize,
-    to: usize,
-) -> usize {
+pub(crate) fn put_samples(out: &mut [u8], at: usize, samples: &[i16]) -> usize {
     let mut end = at;
-    for i in from..num::least(to, samples.len()) {
-        end = put_number(&mut *out, end, sample_bits(samples[i]));
+    for x in samples {
+        end = put_number(&mut *out, end, sample_bits(*x));
     }
     end
 }
 
-fn byte_number(x: u8) -> u64 {
-    x as u64
-}
-
 pub(crate) fn put_bytes(out: &mut [u8], at: usize, bytes: &[u8]) -> usize {
     let mut end = at;
-    for i in 0..bytes.len() {
-        end = put(&mut *out, end, byte_number(bytes[i]));
+    for x in bytes {
+        let byte = *x;
+        end = put(&mut *out, end, byte as u64);
     }
     end
 }

@@ -1,13 +1,24 @@
 use borrow.Author.Rules.{sfits_of}
-use mathlib.Core.Path.{refl}
+use mathlib.Core.Path.{sym, ◌∙◌}
 use native.Mathlib.Omega.{arith}
-use Rattle.sides.proofs.Sums.{sum-next, next_small}
-use Rattle.sides.specs.Sides.{side_sum}
+use mir.Syntax.{w32}
+use Rattle.num.proofs.Integers.{back}
+use Rattle.sides.proofs.Frames.{side-both, side-alone}
+use Rattle.sides.proofs.Sums.{both_is}
 use Rattle.sides.proofs.side_of.Goals as goal
 
-pub loop-ch-init : goal.loop-ch-init
-unfolding side_sum
-loop-ch-init c = (omega arith, refl, omega arith)
+pub returns-then-others-n : goal.returns-then-others-n
+returns-then-others-n c =
+    let a = c.args in
+    let s = c.sum_of-sum in
+    back w32 s.result (sfits_of s.type_inv) ∙ s.ensures.result ∙ sym (side-alone a.stems.now a.others.now a.hand a.n (omega (arith, c.if-others-n.true)))
 
-pub loop-ch-preserved : goal.loop-ch-preserved
-loop-ch-preserved c = (omega arith, sum-next c.args.stems.now c.args.from c.loop-ch.ch c.loop-ch.sum-bits (sfits_of c.sum-1.given) c.loop-ch-test.true c.loop-ch.invariant.2 c.loop-ch.invariant.1, next_small c.args.stems.now c.args.from c.loop-ch.ch c.loop-ch.sum-bits (sfits_of c.sum-1.given) c.loop-ch-test.true c.loop-ch.invariant.2)
+pub returns : goal.returns
+returns c =
+    let a = c.args in
+    let s = c.sum_of-sum in
+    let o = c.sum_of in
+    let j = c.joined in
+    back w32 j.result (sfits_of j.type_inv)
+    ∙ both_is s.result o.result (sfits_of s.type_inv) (sfits_of o.type_inv) _ _ j.result s.ensures.result o.ensures.result j.ensures
+    ∙ sym (side-both a.stems.now a.others.now a.hand a.n (omega (arith, c.if-others-n.false)))

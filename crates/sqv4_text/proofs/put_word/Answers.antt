@@ -1,8 +1,10 @@
-use Rattle.sqv4_text.proofs.Answers.{word-file, word-refused}
+use Rattle.sqv4_text.specs.Lines.{word_of}
 use Rattle.sqv4_text.proofs.put_word.Goals as goal
 
-pub returns-in-Accepted : goal.returns-in-Accepted
-returns-in-Accepted c = rw (word-file _ _ c.in-Accepted.is) c.put_text.ensures
+pub returns-in-Ok : goal.returns-in-Ok
+unfolding word_of
+returns-in-Ok c = rw c.in-Ok.is c.put_text.ensures
 
-pub returns-in_default : goal.returns-in_default
-returns-in_default c = rw (word-refused _ c.in_default.not-Accepted) c.put_text-in_default.ensures
+pub returns-in-Err : goal.returns-in-Err
+unfolding word_of
+returns-in-Err c = rw c.in-Err.is c.put_text-in-Err.ensures

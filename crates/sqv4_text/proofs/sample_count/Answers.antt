@@ -1,11 +1,10 @@
-use Rattle.std.proofs.Common.{ℕ, ◌*◌, sym, ap, ◌∙◌}
-use Rattle.sqv4_text.proofs.Answers.{samples-file, samples-refused}
+use Rattle.sqv4_text.specs.Lines.{samples_in}
 use Rattle.sqv4_text.proofs.sample_count.Goals as goal
 
-pub returns-in_default : goal.returns-in_default
-returns-in_default c = sym (samples-refused _ c.in_default.not-Accepted)
+pub returns-in-Ok : goal.returns-in-Ok
+unfolding samples_in
+returns-in-Ok c = rw (c.in-Ok.is, c.least.ensures)
 
-pub returns : goal.returns
-returns c =
-    ap (λ (n : ℕ). n * c.in-Accepted.header.channels) c.least.ensures
-    ∙ sym (samples-file _ _ c.in-Accepted.is)
+pub returns-in-Err : goal.returns-in-Err
+unfolding samples_in
+returns-in-Err c = rw c.in-Err.is

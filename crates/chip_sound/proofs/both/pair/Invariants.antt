@@ -1,11 +1,5 @@
-use mathlib.Core.Path.{◌≡◌}
-use Prim.Native.Nat.{◌-◌}
-use lib.ListN.{length}
 use Rattle.chip_sound.proofs.Pairs.{Pairing}
 use Rattle.chip_sound.proofs.both.pair.Given as goal
 
 abbrev pub invariant-loop-i : goal.invariant-loop-i
-invariant-loop-i l = Pairing l.first l.second l.i l.stems × (l.n ≡ length l.first)
-
-abbrev pub decreases-loop-i : goal.decreases-loop-i
-decreases-loop-i l = l.n - l.i
+invariant-loop-i l = Pairing l.first l.second l.i l.stems

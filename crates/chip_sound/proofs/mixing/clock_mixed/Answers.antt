@@ -1,35 +1,36 @@
-use mathlib.Core.Path.{sym, ◌∙◌}
+use Rattle.std.specs.Prelude.{is_ok}
+use mathlib.Core.Path.{ap, ◌∙◌}
 use Rattle.chip_sound.specs.Mixing.{mixed_answered, mixed_left, mixed_right, clock_mixed_called, clock_mixed_left, clock_mixed_right}
 use Rattle.s3w2.proofs.Refused.{away, stays, goes-on}
 use Rattle.chip_sound.proofs.Mixes.{mixed-cleared}
 use Rattle.chip_sound.proofs.mixing.clock_mixed.Goals as goal
 
-pub returns-then-not-is_done-clause-called : goal.returns-then-not-is_done-clause-called
+pub returns-in-Err-clause-called : goal.returns-in-Err-clause-called
 unfolding clock_mixed_called clock_mixed_left clock_mixed_right mixed_answered mixed_left mixed_right
-returns-then-not-is_done-clause-called c =
-    let r = c.refusal_of_sound-refusal in
-    let no = sym c.is_done.ensures ∙ c.if-not-is_done.true in
-    (c.answers.ensures ∙ away r.result _ r.ensures _ _ no)
+returns-in-Err-clause-called c =
+    let r = c.refusal_of_sound in
+    let no = ap is_ok c.in-Err.is in
+    (c.answers.ensures ∙ away r.result _ r.ensures _ c.in-Err.is _ _)
 
-pub returns-then-not-is_done-clause-left : goal.returns-then-not-is_done-clause-left
+pub returns-in-Err-clause-left : goal.returns-in-Err-clause-left
 unfolding clock_mixed_called clock_mixed_left clock_mixed_right mixed_answered mixed_left mixed_right
-returns-then-not-is_done-clause-left c =
-    let r = c.refusal_of_sound-refusal in
-    let no = sym c.is_done.ensures ∙ c.if-not-is_done.true in
+returns-in-Err-clause-left c =
+    let r = c.refusal_of_sound in
+    let no = ap is_ok c.in-Err.is in
     (stays r.result _ r.ensures _ _ no)
 
-pub returns-then-not-is_done-clause-right : goal.returns-then-not-is_done-clause-right
+pub returns-in-Err-clause-right : goal.returns-in-Err-clause-right
 unfolding clock_mixed_called clock_mixed_left clock_mixed_right mixed_answered mixed_left mixed_right
-returns-then-not-is_done-clause-right c =
-    let r = c.refusal_of_sound-refusal in
-    let no = sym c.is_done.ensures ∙ c.if-not-is_done.true in
+returns-in-Err-clause-right c =
+    let r = c.refusal_of_sound in
+    let no = ap is_ok c.in-Err.is in
     (stays r.result _ r.ensures _ _ no)
 
 pub returns-clause-called : goal.returns-clause-called
 unfolding clock_mixed_called clock_mixed_left clock_mixed_right
 returns-clause-called c =
     let a = c.args in
-    let n = c.least-n in
+    let n = c.min-n in
     let l = c.clear in
     let r = c.clear-2 in
     let f = c.clock_mixed_into in
@@ -40,9 +41,9 @@ pub returns-clause-left : goal.returns-clause-left
 unfolding clock_mixed_called clock_mixed_left clock_mixed_right
 returns-clause-left c =
     let a = c.args in
-    let g = c.refusal_of_sound-refusal in
-    let done = sym c.is_done.ensures ∙ c.if-not-is_done.false in
-    let n = c.least-n in
+    let g = c.refusal_of_sound in
+    let done = ap is_ok c.in_default.is in
+    let n = c.min-n in
     let l = c.clear in
     let r = c.clear-2 in
     let f = c.clock_mixed_into in
@@ -53,9 +54,9 @@ pub returns-clause-right : goal.returns-clause-right
 unfolding clock_mixed_called clock_mixed_left clock_mixed_right
 returns-clause-right c =
     let a = c.args in
-    let g = c.refusal_of_sound-refusal in
-    let done = sym c.is_done.ensures ∙ c.if-not-is_done.false in
-    let n = c.least-n in
+    let g = c.refusal_of_sound in
+    let done = ap is_ok c.in_default.is in
+    let n = c.min-n in
     let l = c.clear in
     let r = c.clear-2 in
     let f = c.clock_mixed_into in

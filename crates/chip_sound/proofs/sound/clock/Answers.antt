@@ -1,4 +1,5 @@
-use mathlib.Core.Path.{◌≡◌, refl, sym, ap, ap₂, ◌∙◌}
+use Rattle.std.specs.Prelude.{Ok, is_ok}
+use mathlib.Core.Path.{◌≡◌, refl, ap, ap₂, ◌∙◌}
 use mathlib.Core.List.{List, ◌++◌}
 use Prim.Native.Nat.{ℕ, ◌+◌, ◌-◌, ◌*◌, ◌≤◌}
 use native.Mathlib.Omega.{arith}
@@ -8,8 +9,8 @@ use borrow.Author.Tests.{eqb-true}
 use borrow.Rule.Slice.PartMut.{put_mid}
 use Rattle.cores.specs.Sizes.{chip_queues}
 use Rattle.s3w2.specs.declared.Chip.{Chip}
-use Rattle.s3w2.specs.declared.Answer.{Answer}
-use Rattle.s3w2.specs.declared.Answer.TheVariants.{Ended}
+use Rattle.s3w2.specs.declared.Returned.{Returned}
+use Rattle.s3w2.specs.declared.Returned.TheVariants.{Ended}
 use Rattle.s3w2.specs.Answers.{answered}
 use Rattle.chip_sound.specs.Sound.{clock_called, clock_stems}
 use Rattle.s3w2.proofs.Refused.{away, stays, goes-on, goes-called}
@@ -19,26 +20,26 @@ use Rattle.chip_sound.proofs.Loops.{prefix-length, room_most, ran-long, begin}
 use Rattle.chip_sound.proofs.Clocks.{clocking-begin, clocking-turn, clock-over, stems-over}
 use Rattle.chip_sound.proofs.sound.clock.Goals as goal
 
-pub returns-then-not-is_done-clause-called : goal.returns-then-not-is_done-clause-called
+pub returns-in-Err-clause-called : goal.returns-in-Err-clause-called
 unfolding clock_called clock_stems
-returns-then-not-is_done-clause-called c =
-    let r = c.refusal_of_clock-refusal in
-    let no = sym c.is_done.ensures ∙ c.if-not-is_done.true in
-    (c.answers.ensures ∙ away r.result _ r.ensures _ _ no)
+returns-in-Err-clause-called c =
+    let r = c.refusal_of_clock in
+    let no = ap is_ok c.in-Err.is in
+    (c.answers.ensures ∙ away r.result _ r.ensures _ c.in-Err.is _ _)
 
-pub returns-then-not-is_done-clause-stems : goal.returns-then-not-is_done-clause-stems
+pub returns-in-Err-clause-stems : goal.returns-in-Err-clause-stems
 unfolding clock_called clock_stems
-returns-then-not-is_done-clause-stems c =
-    let r = c.refusal_of_clock-refusal in
-    let no = sym c.is_done.ensures ∙ c.if-not-is_done.true in
+returns-in-Err-clause-stems c =
+    let r = c.refusal_of_clock in
+    let no = ap is_ok c.in-Err.is in
     (stays r.result _ r.ensures _ _ no)
 
 pub loop-done-init : goal.loop-done-init
 loop-done-init c =
     let a = c.args in
-    let r = c.refusal_of_clock-refusal in
+    let r = c.refusal_of_clock in
     let sounds = c.second_sounds-sounds.result in
-    let t = all_there _ _ _ _ r.result r.ensures (sym c.is_done.ensures ∙ c.if-not-is_done.false) in
+    let t = all_there _ _ _ _ r.result r.ensures (ap is_ok c.in_default.is) in
     let g = begin a.ram.now a.queues.now sounds a.chip a.frames t.accepted (eqb-true (length a.queues.now) chip_queues t.lent) c.core_at-one.result c.core_at-two.result c.core_at-one.ensures c.core_at-two.ensures in
     (clocking-begin a.ram.now a.queues.now sounds a.chip a.stems.now a.frames c.core_at-one.result c.core_at-two.result g (eqb-true (length a.stems.now) (32 * a.frames) t.enough), length-replicate 4096 (pos 0), length-replicate 4096 (pos 0), refl)
 
@@ -94,15 +95,15 @@ returns-clause-called c =
     let a = c.args in
     let l = c.loop-done in
     let sounds = c.second_sounds-sounds.result in
-    let r = c.refusal_of_clock-refusal in
-    let done = sym c.is_done.ensures ∙ c.if-not-is_done.false in
+    let r = c.refusal_of_clock in
+    let done = ap is_ok c.in_default.is in
     let e = c.second_sounds-sounds.ensures in
     let h = c.loop-done-test.false in
     let chip = c.with_cores-after in
     let now = clock-over a.ram.now a.queues.now sounds a.chip a.stems.now a.frames l.done l.one l.two l.stems l.second l.invariant.0 e h chip.result chip.ensures in
     let was = c.flags-was in
     let told = c.ended_since.ensures ∙ ap (λ (x : ℕ). Ended x) (both-ended a.chip a.ram.now a.queues.now a.frames chip.result was.result.first was.result.second was.ensures.first was.ensures.second now) in
-    (goes-called r.result _ r.ensures _ _ _ done (c.answers-2.ensures ∙ ap₂ (λ (x : Chip) (y : Answer). answered x y) now told))
+    (goes-called r.result _ r.ensures _ _ _ done (c.answers-2.ensures ∙ ap₂ (λ (x : Chip) (y : Returned). answered x (Ok y)) now told))
 
 pub returns-clause-stems : goal.returns-clause-stems
 unfolding clock_called clock_stems
@@ -110,8 +111,8 @@ returns-clause-stems c =
     let a = c.args in
     let l = c.loop-done in
     let sounds = c.second_sounds-sounds.result in
-    let r = c.refusal_of_clock-refusal in
-    let done = sym c.is_done.ensures ∙ c.if-not-is_done.false in
+    let r = c.refusal_of_clock in
+    let done = ap is_ok c.in_default.is in
     let e = c.second_sounds-sounds.ensures in
     let h = c.loop-done-test.false in
     (stems-over a.ram.now a.queues.now sounds a.chip a.stems.now a.frames l.done l.one l.two l.stems l.second l.invariant.0 e h ∙ goes-on r.result _ r.ensures _ _ done)

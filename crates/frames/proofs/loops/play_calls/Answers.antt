@@ -10,7 +10,7 @@ use Rattle.frames.proofs.Fits.{sized, bytes}
 use Rattle.frames.proofs.Playing.{standing, begin, has-room, turn-made, over, placed, each-before, call-begun, less-left, clocked-most}
 use Rattle.frames.proofs.Turns.{Turn, silent-turn, sound-turn, queue-turn, served-most, served-turn, stream-turn, turn_by}
 use Rattle.frames.proofs.loops.play_calls.Goals as goal
-use Rattle.frames.proofs.loops.play_calls.Goals.{Joined-kind, Joined-asked, in-Silent, in-Oscillator, in-Sqv4+then-r-n, in-Sqv4+else-r-n, in-FifoDac}
+use Rattle.frames.proofs.loops.play_calls.Goals.{Joined-kind, Joined-from, in-Silent, in-Oscillator, in-Sqv4+then-r-n, in-Sqv4+else-r-n, in-FifoDac}
 use Rattle.frames.proofs.loops.play_calls.Goals.{in-WritePcmRam, in-WriteRegister+then-address-lt2048, in-WriteRegister+else-address-lt2048+then-address-lt2304+then-empties, in-WriteRegister+else-address-lt2048+then-address-lt2304+else-empties, in-WriteRegister+else-address-lt2048+else-address-lt2304, in-Look+then-look_empties, in-Look+else-look_empties, in-Clock, in-SetVersion, in-Nothing}
 
 pub loop-turn-init : goal.loop-turn-init
@@ -103,19 +103,19 @@ loop-turn-preserved-then-turn-stop c =
     )
 
 -- the call, whichever way it came
-called : (c : Joined-asked)
+called : (c : Joined-from)
     → Begins c.args.kinds.now c.args.addresses.now c.args.first c.args.n c.loop-turn.i (standing c.args.ram.now c.loop-turn.core c.loop-turn.version c.loop-turn.queues c.loop-turn.values c.loop-turn.invariant.0.gave)
-    (standing c.args.ram.now c.match-asked.core c.match-asked.version c.match-asked.queues c.match-asked.values c.loop-turn.invariant.0.gave) c.match-asked.stop
+    (standing c.args.ram.now c.match-from.core c.match-from.version c.match-from.queues c.match-from.values c.loop-turn.invariant.0.gave) c.match-from.stop
 called c =
     let a = c.args in
     let l = c.loop-turn in
     let g = l.invariant.0 in
     let address = get_or a.addresses.now l.i 0 in
     let value = get_or l.values l.i 0 in
-    let ask = sym c.asked.ensures in
+    let ask = sym c.from.ensures in
     let is_read = eqb (get_or a.kinds.now l.i 0) read_register_kind in
     let now = standing a.ram.now l.core l.version l.queues l.values g.gave in
-    elim c.match-asked.branch [
+    elim c.match-from.branch [
       | in-WritePcmRam w ↦ begins-by a.kinds.now a.addresses.now a.first a.n l.i now (λ j. standing a.ram.now (w.core-is j) (w.version-is j) (w.queues-is j) (w.values-is j) g.gave) w.stop-is (store-none a.kinds.now a.addresses.now a.first a.n l.i now g.ready (ask ∙ w.in-WritePcmRam.is) (c.requires.fact_5 l.i (omega (arith, g.begun)) (omega (arith, c.if-to-i.false))))
       | in-WriteRegister+then-address-lt2048 w ↦ begins-by a.kinds.now a.addresses.now a.first a.n l.i now (λ j. standing a.ram.now (w.core-is j) (w.version-is j) (w.queues-is j) (w.values-is j) g.gave) w.stop-is (write-begins a.kinds.now a.addresses.now a.first a.n l.i now g.ready (ask ∙ w.in-WriteRegister.is) _ _ (wrote-wavetable l.version l.core l.queues address value _ _ w.if-address-lt2048.true refl refl) (search rules))
       | in-WriteRegister+else-address-lt2048+then-address-lt2304+then-empties w ↦ begins-by a.kinds.now a.addresses.now a.first a.n l.i now (λ j. standing a.ram.now (w.core-is j) (w.version-is j) (w.queues-is j) (w.values-is j) g.gave) w.stop-is (write-begins a.kinds.now a.addresses.now a.first a.n l.i now g.ready (ask ∙ w.in-WriteRegister.is) _ _ (wrote-block l.version l.core l.queues address value _ _ w.channel_of-ch.result w.offset_of-offset.result w.write_at-d.result w.empties.result w.write_at-d.new.queue g.entries w.if-address-lt2048.false w.if-address-lt2304.true w.channel_of-ch.ensures.1 w.channel_of-ch.ensures.0 w.offset_of-offset.ensures w.write_at-d.ensures.0 w.empties.ensures w.write_at-d.ensures.1 (stored-emptied l.core w.channel_of-ch.result w.write_at-d.result w.empties.result w.clear_fragments.new.samples w.if-empties.true w.clear_fragments.ensures) refl) (search rules))
@@ -124,7 +124,7 @@ called c =
       | in-Look+then-look_empties w ↦ begins-by a.kinds.now a.addresses.now a.first a.n l.i now (λ j. standing a.ram.now (w.core-is j) (w.version-is j) (w.queues-is j) (w.values-is j) g.gave) w.stop-is (look-begins a.kinds.now a.addresses.now a.first a.n l.i now g.ready (ask ∙ w.in-Look.is) _ _ (look-emptied l.core address w.channel_of-ch-in-Look.result w.channel_of-ch-in-Look.ensures.0 is_read w.look_empties.result w.after_read.result _ w.look_empties.ensures w.if-look_empties.true w.after_read.ensures (stored-emptied l.core w.channel_of-ch-in-Look.result w.after_read.result true w.clear_fragments-then-look_empties.new.samples refl w.clear_fragments-then-look_empties.ensures)) (look-byte l.core address w.channel_of-ch-in-Look.result w.channel_of-ch-in-Look.ensures.0 l.version w.seen.result w.seen.ensures))
       | in-Look+else-look_empties w ↦ begins-by a.kinds.now a.addresses.now a.first a.n l.i now (λ j. standing a.ram.now (w.core-is j) (w.version-is j) (w.queues-is j) (w.values-is j) g.gave) w.stop-is (look-begins a.kinds.now a.addresses.now a.first a.n l.i now g.ready (ask ∙ w.in-Look.is) _ _ (look-kept l.core address w.channel_of-ch-in-Look.result w.channel_of-ch-in-Look.ensures.0 is_read w.look_empties.result w.look_empties.ensures w.if-look_empties.false) (look-byte l.core address w.channel_of-ch-in-Look.result w.channel_of-ch-in-Look.ensures.0 l.version w.seen.result w.seen.ensures))
       | in-Clock w ↦ begins-by a.kinds.now a.addresses.now a.first a.n l.i now (λ j. standing a.ram.now (w.core-is j) (w.version-is j) (w.queues-is j) (w.values-is j) g.gave) w.stop-is (clock-begins a.kinds.now a.addresses.now a.first a.n l.i now g.ready (ask ∙ w.in-Clock.is))
-      | in-SetVersion w ↦ begins-by a.kinds.now a.addresses.now a.first a.n l.i now (λ j. standing a.ram.now (w.core-is j) (w.version-is j) (w.queues-is j) (w.values-is j) g.gave) w.stop-is (version-begins a.kinds.now a.addresses.now a.first a.n l.i now g.ready (ask ∙ w.in-SetVersion.is) _ _ w.numbered-version.ensures w.set_version-core.ensures)
+      | in-SetVersion w ↦ begins-by a.kinds.now a.addresses.now a.first a.n l.i now (λ j. standing a.ram.now (w.core-is j) (w.version-is j) (w.queues-is j) (w.values-is j) g.gave) w.stop-is (version-begins a.kinds.now a.addresses.now a.first a.n l.i now g.ready (ask ∙ w.in-SetVersion.is) _ _ w.from-version.ensures w.set_version-core.ensures)
       | in-Nothing w ↦ begins-by a.kinds.now a.addresses.now a.first a.n l.i now (λ j. standing a.ram.now (w.core-is j) (w.version-is j) (w.queues-is j) (w.values-is j) g.gave) w.stop-is (nothing-begins a.kinds.now a.addresses.now a.first a.n l.i now g.ready (ask ∙ w.in-Nothing.is))
     ]
 
@@ -132,8 +132,8 @@ pub loop-turn-smaller : goal.loop-turn-smaller
 loop-turn-smaller c =
     let a = c.args in
     let l = c.loop-turn in
-    let j = (goal.at.loop-turn-smaller c).Joined-asked in
-    let z = less-left a.kinds.now a.addresses.now a.from a.to l.i (omega (arith, l.invariant.0.begun)) (omega (arith, c.if-to-i.false)) c.match-asked.stop (called j).count in
+    let j = (goal.at.loop-turn-smaller c).Joined-from in
+    let z = less-left a.kinds.now a.addresses.now a.from a.to l.i (omega (arith, l.invariant.0.begun)) (omega (arith, c.if-to-i.false)) c.match-from.stop (called j).count in
     omega (arith, z)
 
 pub loop-turn-preserved : goal.loop-turn-preserved
@@ -141,9 +141,9 @@ loop-turn-preserved c =
     let a = c.args in
     let l = c.loop-turn in
     let g = l.invariant.0 in
-    let e = called (goal.at.loop-turn-preserved c).Joined-asked in
+    let e = called (goal.at.loop-turn-preserved c).Joined-from in
     let m = clocked-most a.kinds.now a.addresses.now a.from a.to l.i (omega (arith, g.begun)) (omega (arith, c.if-to-i.false)) in (
-      call-begun a.kinds.now a.addresses.now a.first a.n a.turns a.from a.to a.ram.now (lent_list a.core a.version a.ram.now a.queues.now a.values.now) a.stems.now a.at (length a.values.now) l.core l.version l.queues l.values l.stems l.place l.i l.turn l.stop g c.if-turn-stop.false (omega (arith, c.if-to-i.false)) (standing a.ram.now c.match-asked.core c.match-asked.version c.match-asked.queues c.match-asked.values g.gave) c.match-asked.stop e.ram e.stems e.ready (e.entries ∙ g.entries) (e.long ∙ g.long) e.made e.count,
+      call-begun a.kinds.now a.addresses.now a.first a.n a.turns a.from a.to a.ram.now (lent_list a.core a.version a.ram.now a.queues.now a.values.now) a.stems.now a.at (length a.values.now) l.core l.version l.queues l.values l.stems l.place l.i l.turn l.stop g c.if-turn-stop.false (omega (arith, c.if-to-i.false)) (standing a.ram.now c.match-from.core c.match-from.version c.match-from.queues c.match-from.values g.gave) c.match-from.stop e.ram e.stems e.ready (e.entries ∙ g.entries) (e.long ∙ g.long) e.made e.count,
       l.invariant.1,
       l.invariant.2,
       l.invariant.3,

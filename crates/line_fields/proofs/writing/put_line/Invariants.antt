@@ -1,11 +1,7 @@
-use Prim.Native.Nat.{◌-◌}
-use lib.ListN.{length, take}
+use lib.ListN.{take}
 use Rattle.decimal.specs.Written.{Put}
 use Rattle.line_fields.specs.Text.{parts_text}
 use Rattle.line_fields.proofs.writing.put_line.Given as goal
 
 abbrev pub invariant-loop-k : goal.invariant-loop-k
 invariant-loop-k l = Put l.initial.out l.out 0 (parts_text 0 (take l.k l.numbers)) l.at
-
-abbrev pub decreases-loop-k : goal.decreases-loop-k
-decreases-loop-k l = length l.numbers - l.k

@@ -8,10 +8,10 @@ use Rattle.num.proofs.Integers.{back}
 use Rattle.log_lines.proofs.Texts.{peak-none, peak-next}
 use Rattle.log_lines.proofs.text.peak.Goals as goal
 
-pub loop-i-init : goal.loop-i-init
-loop-i-init c = (omega arith, peak-none _ _)
+pub loop-value-init : goal.loop-value-init
+loop-value-init c = (omega arith, peak-none _ _)
 
-pub loop-i-preserved : goal.loop-i-preserved
-loop-i-preserved c =
-    let fits : SFits w32 (get_or c.args.side.now c.loop-i.i (pos 0)) = search rules in
-    (omega arith, peak-next _ _ _ _ _ _ (rw (back w32 _ fits) at c.magnitude.ensures) c.loop-i.invariant.1 c.larger-largest.ensures)
+pub loop-value-preserved : goal.loop-value-preserved
+loop-value-preserved c =
+    let fits : SFits w32 (get_or c.args.side.now c.loop-value.value-index (pos 0)) = search rules in
+    (omega arith, peak-next _ _ _ _ _ _ (rw (back w32 _ fits) at c.magnitude.ensures) c.loop-value.invariant.1 c.max-largest.ensures)

@@ -10,7 +10,7 @@ use Rattle.log_lines.proofs.Lengths.{frames-length-none, frames-length-next}
 use Rattle.log_lines.proofs.text.put_frames.Goals as goal
 
 pub loop-i-init : goal.loop-i-init
-loop-i-init c = (omega arith, frames-length-none _ _, frames-none _ c.args.left.now c.args.right.now _ _ c.least-end.ensures)
+loop-i-init c = (omega arith, frames-length-none _ _, frames-none _ c.args.left.now c.args.right.now _ _ c.min-end.ensures)
 
 pub loop-i-preserved : goal.loop-i-preserved
 loop-i-preserved c =

@@ -14,7 +14,7 @@ pub play_list-played-requires : goal.play_list-played-requires
 play_list-played-requires c =
     let g = c.gather-found in
     let e = g.ensures in
-    let l = c.least-most.ensures in
+    let l = c.min-most.ensures in
     let k = g.auto in
     (c.requires.fact_1, lent-list _ _ _ _ _ (omega (arith, e.bound, l, k.kinds)) (omega (arith, e.bound, l, k.addresses)) (omega (arith, e.bound, l, k.values)) e.frames (omega (arith, e.frames, e.gathers.few)))
 
@@ -23,5 +23,5 @@ returns c =
     let a = c.args in
     let f = c.gather-found in
     let g = f.ensures in
-    let l = c.least-most.ensures in
+    let l = c.min-most.ensures in
     batch-some a.input.now (world a.self a.ram.now a.queues.now) _ a.number a.from _ _ _ a.at _ a.out.now _ _ _ _ g.gathers c.if-n-eq0.false (omega (arith, g.bound, l, f.auto.kinds)) (omega (arith, g.bound, l, c.requires.fact_2.0)) c.requires.fact_2.1 refl c.play_list-played.ensures

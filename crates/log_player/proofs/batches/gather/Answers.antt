@@ -1,11 +1,11 @@
-use mathlib.Core.Path.{refl, sym, ap, ◌∙◌}
+use mathlib.Core.Path.{refl, ap, ◌∙◌}
 use Prim.Native.Nat.{◌+◌}
 use native.Mathlib.Omega.{arith}
 use lib.ListN.{length-set}
-use Rattle.log_lines.specs.Lines.{parsed_line, is_bad}
+use Rattle.log_lines.specs.Lines.{parsed_line}
 use Rattle.log_player.specs.declared.ListedCall.{ListedCall}
 use Rattle.log_player.proofs.Stops.{line-part}
-use Rattle.log_player.proofs.Batching.{gathering-none, gathering-ends, gathering-next, first-taken, first_fits, open-line, bad-line, bad-call, call-few}
+use Rattle.log_player.proofs.Batching.{gathering-none, gathering-ends, gathering-next, first-taken, first_fits, open-line, bad-line, call-made, call-none, call-few}
 use Rattle.log_player.proofs.batches.gather.Goals as goal
 
 pub loop-count-init : goal.loop-count-init
@@ -19,13 +19,13 @@ returns-then-input-stop c =
     (λ z. open-line a.input.now l.place _ c.line_end-stop.ensures c.if-input-stop.true) in
     record { bound = w.0; frames = w.1.0; gathers = w.1.1.0; stops = w.1.1.1 }
 
-pub returns-then-made-eq-NO_CALL : goal.returns-then-made-eq-NO_CALL
-returns-then-made-eq-NO_CALL c =
+pub returns-in_default : goal.returns-in_default
+returns-in_default c =
     let a = c.args in
     let l = c.loop-count in
     let e = c.parse.ensures ∙ ap parsed_line (line-part a.input.now l.place _ c.line_end-stop.ensures) in
-    let w = gathering-ends a.input.now a.from a.most a.budget l.kinds l.addresses l.values l.count l.frames l.place l.invariant.3 _ _ _ c.gathered-then-made-eq-NO_CALL.ensures
-    (λ z. bad-line a.input.now l.place _ c.line_end-stop.ensures (ap is_bad (sym e) ∙ bad-call c.parse.result (ap (λ (x : ListedCall). x.kind) (sym c.listed_call-made.ensures) ∙ c.if-made-eq-NO_CALL.true))) in
+    let w = gathering-ends a.input.now a.from a.most a.budget l.kinds l.addresses l.values l.count l.frames l.place l.invariant.3 _ _ _ c.gathered-in_default.ensures
+    (λ z. bad-line a.input.now l.place _ c.line_end-stop.ensures (call-none _ _ _ _ e c.listed_call.ensures c.in_default.is)) in
     record { bound = w.0; frames = w.1.0; gathers = w.1.1.0; stops = w.1.1.1 }
 
 pub returns-then-more-gt-FRAMES : goal.returns-then-more-gt-FRAMES
@@ -33,7 +33,7 @@ returns-then-more-gt-FRAMES c =
     let a = c.args in
     let l = c.loop-count in
     let e = c.parse.ensures ∙ ap parsed_line (line-part a.input.now l.place _ c.line_end-stop.ensures) in
-    let few = call-few _ _ _ c.listed_call-made.ensures e c.clocked_by.ensures.result in
+    let few = call-few _ _ (call-made _ _ _ _ e c.listed_call.ensures c.in-Ok.is) c.clocked_by.ensures.result in
     let w = gathering-ends a.input.now a.from a.most a.budget l.kinds l.addresses l.values l.count l.frames l.place l.invariant.3 _ _ _ c.gathered-then-more-gt-FRAMES.ensures
     (λ z. absurd (first-taken a.input.now a.from a.most a.budget l.kinds l.addresses l.values l.count l.frames l.place l.invariant.3 _ few c.if-more-gt-FRAMES.true z)) in
     record { bound = w.0; frames = w.1.0; gathers = w.1.1.0; stops = w.1.1.1 }
@@ -52,13 +52,13 @@ loop-count-preserved c =
     let l = c.loop-count in
     let stop = c.line_end-stop in
     let e = c.parse.ensures ∙ ap parsed_line (line-part a.input.now l.place _ stop.ensures) in
-    let made = c.listed_call-made.ensures in (
+    let made = call-made _ _ _ _ e c.listed_call.ensures c.in-Ok.is in (
       simp length-set l.invariant.0,
       simp length-set l.invariant.1,
       simp length-set l.invariant.2,
       gathering-next a.input.now a.from a.most a.budget l.kinds l.addresses l.values l.count l.frames l.place l.invariant.3 _ _ _ _ _ stop.result
           c.loop-count-test.true (omega (arith, l.invariant.0, c.requires.fact_2.0, c.loop-count-test.true)) (omega (arith, l.invariant.1, c.requires.fact_2.1, c.loop-count-test.true)) (omega (arith, l.invariant.2, c.requires.fact_2.2, c.loop-count-test.true))
-          stop.ensures c.if-input-stop.false e (ap (λ (x : ListedCall). x.kind) made, ap (λ (x : ListedCall). x.address) made, ap (λ (x : ListedCall). x.value) made) c.if-made-eq-NO_CALL.false
+          stop.ensures c.if-input-stop.false made.is (ap (λ (x : ListedCall). x.kind) made.call, ap (λ (x : ListedCall). x.address) made.call, ap (λ (x : ListedCall). x.value) made.call)
           (ap (λ (n : _). l.frames + n) c.clocked_by.ensures.result) c.if-more-gt-FRAMES.false c.if-budget-count.false,
     )
 
@@ -67,6 +67,6 @@ returns c =
     let a = c.args in
     let l = c.loop-count in
     let h = c.requires.fact_1.0 in
-    let w = gathering-ends a.input.now a.from a.most a.budget l.kinds l.addresses l.values l.count l.frames l.place l.invariant.3 _ _ _ c.gathered-2.ensures
+    let w = gathering-ends a.input.now a.from a.most a.budget l.kinds l.addresses l.values l.count l.frames l.place l.invariant.3 _ _ _ (c.gathered-2.ensures.0 ∙ omega (arith, c.loop-count-test.false, l.invariant.3.some), c.gathered-2.ensures.1, c.gathered-2.ensures.2)
     (λ z. absurd (omega (arith, z, h, c.loop-count-test.false))) in
     record { bound = w.0; frames = w.1.0; gathers = w.1.1.0; stops = w.1.1.1 }

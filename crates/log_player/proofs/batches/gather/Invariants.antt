@@ -1,5 +1,4 @@
 use mathlib.Core.Path.{◌≡◌}
-use Prim.Native.Nat.{◌-◌}
 use lib.ListN.{length}
 use Rattle.log_player.proofs.Batching.{Gathering}
 use Rattle.log_player.proofs.batches.gather.Given as goal
@@ -7,6 +6,3 @@ use Rattle.log_player.proofs.batches.gather.Given as goal
 abbrev pub invariant-loop-count : goal.invariant-loop-count
 invariant-loop-count l =
     (length l.kinds ≡ length l.initial.kinds) × (length l.addresses ≡ length l.initial.addresses) × (length l.values ≡ length l.initial.values) × Gathering l.input l.from l.most l.budget l.kinds l.addresses l.values l.count l.frames l.place
-
-abbrev pub decreases-loop-count : goal.decreases-loop-count
-decreases-loop-count l = l.most - l.count

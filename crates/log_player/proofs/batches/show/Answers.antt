@@ -4,7 +4,7 @@ use Rattle.log_player.proofs.Batching.{showing-none, showing-room, showing-next}
 use Rattle.log_player.proofs.batches.show.Goals as goal
 
 pub loop-i-init : goal.loop-i-init
-loop-i-init c = (refl, showing-none _ _ _ _ _ _ _ _ c.least-end.ensures)
+loop-i-init c = (refl, showing-none _ _ _ _ _ _ _ _ c.min-end.ensures)
 
 pub overflow_add-to : goal.overflow_add-to
 overflow_add-to c =

@@ -27,5 +27,5 @@ returns-then-kind-eq-CLOCK c =
 pub returns : goal.returns
 returns c =
     let a = c.args in
-    let w = shows a.kind a.address a.value a.left.now a.right.now _ _ _ _ _ (shown-none a.kind a.address a.value a.left.now a.right.now c.if-kind-eq-READ_REGISTER.false c.if-kind-eq-PEEK_REGISTER.false c.if-kind-eq-CLOCK.false) (put-none a.out.now a.at _ c.least.ensures) (omega arith) in
+    let w = shows a.kind a.address a.value a.left.now a.right.now _ _ _ _ _ (shown-none a.kind a.address a.value a.left.now a.right.now c.if-kind-eq-READ_REGISTER.false c.if-kind-eq-PEEK_REGISTER.false c.if-kind-eq-CLOCK.false) (put-none a.out.now a.at _ c.min.ensures) (omega arith) in
     record { put = w.0; bound = w.1 }

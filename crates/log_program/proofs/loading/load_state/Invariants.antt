@@ -1,9 +1,6 @@
-use Rattle.std.proofs.Common.{◌≡◌, ◌-◌, length}
+use Rattle.std.proofs.Common.{◌≡◌, length}
 use Rattle.log_program.proofs.loading.load_state.Given as goal
 
 abbrev pub invariant-loop-k : goal.invariant-loop-k
 invariant-loop-k l =
     (length l.input ≡ length l.initial.input) × (length l.text ≡ length l.initial.text) × (length l.queues ≡ length l.initial.queues)
-
-abbrev pub decreases-loop-k : goal.decreases-loop-k
-decreases-loop-k l = 17 - l.k

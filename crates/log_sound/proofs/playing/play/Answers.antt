@@ -9,10 +9,10 @@ use Rattle.log_sound.proofs.playing.play.Goals as goal
 pub returns : goal.returns
 returns c =
     let a = c.args in
-    let room = c.least.result / 16 in
+    let room = c.min.result / 16 in
     let g = c.gather-lines in
     let q = g.ensures in
-    let enough = ap (λ (n : ℕ). n / stems_per_frame) c.least.ensures in
+    let enough = ap (λ (n : ℕ). n / stems_per_frame) c.min.ensures in
     let e = c.play-called.ensures in
     let left = left_is a.chip a.input.now a.from a.ram.now a.queues.now a.stems.now a.others.now room enough g.result _ _ _ q.result q.kinds q.addresses q.values in
     record {

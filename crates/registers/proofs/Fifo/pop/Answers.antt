@@ -1,14 +1,12 @@
 use borrow.Author.Rules.{sfits_of}
 use borrow.Author.Tests.{eq-eqb, ne_eqb}
-use mathlib.Core.Path.{◌≡◌, refl, sym, ap, ◌∙◌}
+use mathlib.Core.Path.{◌≡◌, sym, ◌∙◌}
 use mathlib.Core.List.{List}
-use mathlib.Core.Logic.{⊎_elim}
 use Prim.Native.Nat.{ℕ, ◌+◌, ◌-◌}
 use lib.Bits.{bit_and, and_mask}
 use lib.IntN.{ℤ, pos}
 use lib.ListN.{get_or, get_or-eq_default}
 use mir.Syntax.{w16}
-use mir.Val.{to_z}
 use mir.Facts.{to_z-of_z}
 use Rattle.registers.specs.Queue.{popped}
 use Rattle.registers.specs.declared.Fifo.{Fifo}

@@ -7,7 +7,7 @@ use Rattle.registers.proofs.Registers.read.Goals as goal
 
 pub returns-in-2 : goal.returns-in-2
 unfolding read_registers
-returns-in-2 c = rw c.in-2.is c.number.ensures
+returns-in-2 c = rw c.in-2.is c.from.ensures
 
 pub returns-in-3 : goal.returns-in-3
 unfolding read_registers

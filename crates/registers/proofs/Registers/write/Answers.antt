@@ -1,5 +1,5 @@
 use native.Mathlib.Omega.{arith}
-use mathlib.Core.Path.{◌≡◌, ap, ◌∙◌}
+use mathlib.Core.Path.{◌≡◌, refl, ap, ◌∙◌}
 use lib.Bits.{and_mask}
 use Rattle.registers.specs.Control.{set_frequency, set_param1, set_param2, write_registers}
 use Rattle.registers.proofs.Offsets.{write-frequency, write-param-1, write-param-2, write-other}
@@ -7,7 +7,7 @@ use Rattle.registers.proofs.Registers.write.Goals as goal
 
 pub returns-in-5 : goal.returns-in-5
 unfolding write_registers
-returns-in-5 c = c.with_modulation.ensures ∙ rw (c.from-modulation.ensures, and_mask c.args.value 3, c.in-5.is)
+returns-in-5 c = rw (c.from-self.ensures, and_mask c.args.value 3, c.in-5.is) refl
 
 pub returns-in-3 : goal.returns-in-3
 unfolding write_registers

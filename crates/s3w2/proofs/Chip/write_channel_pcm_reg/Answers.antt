@@ -1,4 +1,5 @@
-use mathlib.Core.Path.{ap, sym, ◌∙◌}
+use Rattle.std.specs.Prelude.{is_ok}
+use mathlib.Core.Path.{ap, ◌∙◌}
 use Rattle.voices.specs.declared.Core.{Core}
 use Rattle.voices.specs.Writes.{write_channel_pcm_reg}
 use Rattle.s3w2.specs.Channels.{write_channel_pcm_reg_called}
@@ -6,19 +7,19 @@ use Rattle.s3w2.proofs.Refused.{away}
 use Rattle.s3w2.proofs.Cases.{changes-none, changes, at-core}
 use Rattle.s3w2.proofs.Chip.write_channel_pcm_reg.Goals as goal
 
-pub returns-then-not-is_done : goal.returns-then-not-is_done
+pub returns-in-Err : goal.returns-in-Err
 unfolding write_channel_pcm_reg_called
-returns-then-not-is_done c =
-    c.answers.ensures ∙ away c.refusal-refusal.result _ c.refusal-refusal.ensures _ _ (sym c.is_done.ensures ∙ c.if-not-is_done.true)
+returns-in-Err c =
+    c.answers.ensures ∙ away c.refusal.result _ c.refusal.ensures _ c.in-Err.is _ _
 
 pub returns-then-core-gt-LAST_CORE : goal.returns-then-core-gt-LAST_CORE
 unfolding write_channel_pcm_reg_called
 returns-then-core-gt-LAST_CORE c =
     let a = c.args in
-    changes-none c.refusal-refusal.result _ c.refusal-refusal.ensures (sym c.is_done.ensures ∙ c.if-not-is_done.false) a.core a.self _ _ _ c.if-core-gt-LAST_CORE.true c.answers-then-core-gt-LAST_CORE.ensures
+    changes-none c.refusal.result _ c.refusal.ensures (ap is_ok c.in_default.is) a.core a.self _ _ _ c.if-core-gt-LAST_CORE.true c.answers-then-core-gt-LAST_CORE.ensures
 
 pub returns : goal.returns
 unfolding write_channel_pcm_reg_called
 returns c =
     let a = c.args in
-    changes c.refusal-refusal.result _ c.refusal-refusal.ensures (sym c.is_done.ensures ∙ c.if-not-is_done.false) a.core a.self _ _ _ _ c.if-core-gt-LAST_CORE.false c.with_core.ensures (c.write_pcm_reg.ensures ∙ ap (λ (v : Core). write_channel_pcm_reg v a.ch a.offset a.value) (at-core a.self a.core _ c.if-core-gt-LAST_CORE.false c.core_at-voices.ensures))
+    changes c.refusal.result _ c.refusal.ensures (ap is_ok c.in_default.is) a.core a.self _ _ _ _ c.if-core-gt-LAST_CORE.false c.with_core.ensures (c.write_pcm_reg.ensures ∙ ap (λ (v : Core). write_channel_pcm_reg v a.ch a.offset a.value) (at-core a.self a.core _ c.if-core-gt-LAST_CORE.false c.core_at-voices.ensures))

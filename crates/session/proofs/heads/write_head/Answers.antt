@@ -1,47 +1,35 @@
-use mathlib.Core.Path.{sym, ap, ◌∙◌}
+use Rattle.std.specs.Prelude.{is_ok}
+use mathlib.Core.Path.{ap, ◌∙◌}
+use Rattle.s3w2.specs.declared.Refusal.{Refusal}
+use Rattle.std.specs.Prelude.{Err}
+use Rattle.session.specs.declared.LineRefusal.TheVariants.{OfChip}
 use Rattle.session.specs.Answers.{wrote}
 use Rattle.session.specs.Heads.{write_head_answer, write_head_text}
-use Rattle.session.proofs.Lines.{other-ram, other-state, goes_over}
+use Rattle.session.proofs.Lines.{away-ram, handed, on-ram, goes_over}
 use Rattle.session.proofs.heads.write_head.Goals as goal
 
-pub returns-then-not-is_ram_length-clause-answer : goal.returns-then-not-is_ram_length-clause-answer
-unfolding write_head_answer write_head_text
-returns-then-not-is_ram_length-clause-answer c =
-    let e = sym c.is_ram_length.ensures ∙ c.if-not-is_ram_length.true in
-    (other-ram c.args.chip _ _ _ _ e)
+pub returns-in_err-refusal_with_ram-clause-answer : goal.returns-in_err-refusal_with_ram-clause-answer
+unfolding write_head_answer
+returns-in_err-refusal_with_ram-clause-answer c =
+    let r = c.refusal_with_ram in
+    handed c.from_residual.result _ c.from_residual.ensures.1 ∙ away-ram c.args.chip _ (λ (x : Refusal). Err (OfChip x)) r.result _ c.in_err-refusal_with_ram.was _ r.ensures
 
-pub returns-then-not-is_ram_length-clause-out : goal.returns-then-not-is_ram_length-clause-out
-unfolding write_head_answer write_head_text
-returns-then-not-is_ram_length-clause-out c =
-    let e = sym c.is_ram_length.ensures ∙ c.if-not-is_ram_length.true in
-    (other-ram c.args.chip _ _ _ _ e)
-
-pub returns-then-not-accepts-clause-answer : goal.returns-then-not-accepts-clause-answer
-unfolding write_head_answer write_head_text
-returns-then-not-accepts-clause-answer c =
-    let h = sym c.is_ram_length.ensures ∙ c.if-not-is_ram_length.false in
-    let e = sym c.accepts.ensures ∙ c.if-not-accepts.true in
-    (other-state c.args.chip _ _ _ _ h e)
-
-pub returns-then-not-accepts-clause-out : goal.returns-then-not-accepts-clause-out
-unfolding write_head_answer write_head_text
-returns-then-not-accepts-clause-out c =
-    let h = sym c.is_ram_length.ensures ∙ c.if-not-is_ram_length.false in
-    let e = sym c.accepts.ensures ∙ c.if-not-accepts.true in
-    (other-state c.args.chip _ _ _ _ h e)
+pub returns-in_err-refusal_with_ram-clause-out : goal.returns-in_err-refusal_with_ram-clause-out
+unfolding write_head_text
+returns-in_err-refusal_with_ram-clause-out c =
+    let r = c.refusal_with_ram in
+    away-ram c.args.chip _ (λ (x : Refusal). c.args.out.now) r.result _ c.in_err-refusal_with_ram.was _ r.ensures
 
 pub returns-clause-answer : goal.returns-clause-answer
-unfolding write_head_answer write_head_text
+unfolding write_head_answer
 returns-clause-answer c =
-    let h = sym c.is_ram_length.ensures ∙ c.if-not-is_ram_length.false in
-    let e = sym c.accepts.ensures ∙ c.if-not-accepts.false in
-    let w = c.write_head in
-    (c.told.ensures ∙ ap wrote w.ensures.result ∙ goes_over c.args.chip _ _ _ _ h e)
+    let r = c.refusal_with_ram in
+    let on = on-ram c.args.chip _ r.result r.ensures (ap is_ok c.in_ok-refusal_with_ram.was) in
+    c.told.ensures ∙ ap wrote c.write_head.ensures.result ∙ goes_over c.args.chip _ _ _ _ on.0 on.1
 
 pub returns-clause-out : goal.returns-clause-out
-unfolding write_head_answer write_head_text
+unfolding write_head_text
 returns-clause-out c =
-    let h = sym c.is_ram_length.ensures ∙ c.if-not-is_ram_length.false in
-    let e = sym c.accepts.ensures ∙ c.if-not-accepts.false in
-    let w = c.write_head in
-    (w.ensures.out ∙ goes_over c.args.chip _ _ _ _ h e)
+    let r = c.refusal_with_ram in
+    let on = on-ram c.args.chip _ r.result r.ensures (ap is_ok c.in_ok-refusal_with_ram.was) in
+    c.write_head.ensures.out ∙ goes_over c.args.chip _ _ _ _ on.0 on.1

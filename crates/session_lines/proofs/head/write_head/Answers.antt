@@ -16,5 +16,5 @@ pub returns : goal.returns
 returns c =
     let p = (let a = c.args in
     head-yes a.out.now a.version a.size _ c.natural_width-width.ensures _ _ c.if-out-width.false
-    (head-put a.out.now _ _ _ _ _ _ _ _ _ _ _ a.version a.size c.number-number.ensures c.put_text-first.ensures c.put_byte-second.ensures c.put_byte-third.ensures c.put_natural-fourth.ensures c.put_byte.ensures)) in
+    (head-put a.out.now _ _ _ _ _ _ _ _ _ _ _ a.version a.size c.from-number.ensures c.put_text-first.ensures c.put_byte-second.ensures c.put_byte-third.ensures c.put_natural-fourth.ensures c.put_byte.ensures)) in
     record { result = p.0; out = p.1; number = (told-room _ _ _ p).1.1 }

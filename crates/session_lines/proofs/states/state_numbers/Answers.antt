@@ -14,4 +14,4 @@ returns c =
     let held : SFits w16 a.fifo.held = search rules in
     let first : c.bits16.result ≡ of_z w16 a.oscillator.last_sample = rw (back w16 _ last) at c.bits16.ensures in
     let second : c.bits16-2.result ≡ of_z w16 a.fifo.held = rw (back w16 _ held) at c.bits16-2.ensures in
-    rw (c.number.ensures, c.number-2.ensures, c.flag.ensures, first, second)
+    rw (c.from.ensures, c.from-2.ensures, c.flag.ensures, first, second)

@@ -1,5 +1,4 @@
 use mathlib.Core.Path.{sym, ◌∙◌}
-use mathlib.Core.Bool.{false}
 use Rattle.sqv4.specs.Files.{fault_in}
 use Rattle.sqv4.proofs.check.fault_in.Goals as goal
 

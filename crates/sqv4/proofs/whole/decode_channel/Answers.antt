@@ -1,5 +1,5 @@
 use native.Mathlib.Omega.{arith}
-use Prim.Native.Nat.{◌+◌, ◌-◌, ◌≤◌}
+use Prim.Native.Nat.{◌+◌, ◌≤◌}
 use lib.ListN.{length}
 use Rattle.sqv4.proofs.Wholes.{start, turn, ended, fragment-room}
 use Rattle.sqv4.proofs.whole.decode_channel.Goals as goal
@@ -11,7 +11,7 @@ inside c =
     fragment-room c.args.file.now c.args.header c.args.channel l.frame l.from c.requires.fact_1 c.loop-frame-test.true c.requires.fact_2 l.invariant.first
 
 pub loop-frame-init : goal.loop-frame-init
-loop-frame-init c = let a = c.args in start a.file.now a.header a.channel a.samples.now
+loop-frame-init c = let a = c.args in rw c.default-state.ensures (start a.file.now a.header a.channel a.samples.now)
 
 pub slice_bounds-decode_part-end : goal.slice_bounds-decode_part-end
 slice_bounds-decode_part-end c = omega (arith, inside c)

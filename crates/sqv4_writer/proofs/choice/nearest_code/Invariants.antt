@@ -1,11 +1,7 @@
 use mathlib.Core.Path.{◌≡◌}
-use Prim.Native.Nat.{◌-◌, ◌≤◌}
 use Rattle.sqv4_writer.specs.Choice.{nearest_of, distance_of}
 use Rattle.sqv4_writer.proofs.choice.nearest_code.Given as goal
 
-abbrev pub invariant-loop-code : goal.invariant-loop-code
-invariant-loop-code l =
-    (l.code ≤ l.last) × (l.best ≡ nearest_of (distance_of l.variant l.volume l.state l.sample) l.code) × (l.least ≡ distance_of l.variant l.volume l.state l.sample l.best)
-
-abbrev pub decreases-loop-code : goal.decreases-loop-code
-decreases-loop-code l = l.last - l.code
+abbrev pub invariant-loop-below : goal.invariant-loop-below
+invariant-loop-below l =
+    (l.best ≡ nearest_of (distance_of l.variant l.volume l.state l.sample) l.below) × (l.least ≡ distance_of l.variant l.volume l.state l.sample l.best)

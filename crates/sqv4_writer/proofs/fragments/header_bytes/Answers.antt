@@ -6,7 +6,7 @@ pub returns : goal.returns
 unfolding header_bytes
 returns c =
     rw (
-      c.number.ensures,
+      c.from.ensures,
       c.byte_from.ensures,
       c.byte_from-2.ensures,
       c.byte_from-3.ensures,

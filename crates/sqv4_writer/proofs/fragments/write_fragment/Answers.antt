@@ -7,9 +7,9 @@ pack-requires-clause-fact_2 c =
     let a = c.args in
     let e = c.choose_codes-codes.ensures in
     let b = c.bits.ensures in
-    (λ i. rw (e, b) (array-small a.variant a.volume (start_of a.index) a.samples.now c.requires.0 i))
+    (λ i. rw (e, b) (array-small a.terms.variant a.terms.volume (start_of a.terms.index) a.samples.now c.requires.0 i))
 
 pub returns : goal.returns
 returns c =
     let a = c.args in
-    stored a.variant a.volume a.index a.at _ a.samples.now a.out.now _ _ _ _ c.requires.0 c.bits.ensures c.choose_codes-codes.ensures c.store.ensures c.store-2.ensures c.pack.ensures
+    stored a.terms.variant a.terms.volume a.terms.index a.at _ a.samples.now a.out.now _ _ _ _ c.requires.0 c.bits.ensures c.choose_codes-codes.ensures c.store.ensures c.store-2.ensures c.pack.ensures

@@ -2,10 +2,10 @@ use borrow.Author.Tests.{lt-ltb, le-ltb}
 use mathlib.Core.Path.{◌≡◌, sym, ◌∙◌}
 use mathlib.Core.Bool.{false}
 use Rattle.sqv4_writer.specs.Streams.{answer_for, out_of_terms}
-use Rattle.sqv4_writer.proofs.Terms.{in-terms}
+use Rattle.sqv4_writer.proofs.Limits.{in-terms}
 use Rattle.sqv4_writer.proofs.streams.answer_for.Goals as goal
 
-within : (c : goal.Else-out_of_terms) → let a = c.args in out_of_terms a.samples a.rate a.volume a.index ≡ false
+within : (c : goal.Else-out_of_terms) → let a = c.args in out_of_terms a.samples a.terms.rate a.terms.volume a.terms.index ≡ false
 within c = sym c.out_of_terms.ensures ∙ c.if-out_of_terms.false
 
 pub returns-then-out_of_terms : goal.returns-then-out_of_terms

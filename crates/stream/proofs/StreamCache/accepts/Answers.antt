@@ -1,6 +1,7 @@
+use Rattle.std.specs.Prelude.{Option}
+use Rattle.adpcm.specs.declared.Variant.{Variant}
 use Rattle.std.proofs.Common.{◌-◌, sym, ap, ◌∙◌, le-ltb, lt-ltb, le-leb}
 use borrow.Author.Tests.{not-true, not-false, lt-leb}
-use Rattle.stream.specs.declared.Held.{Held}
 use Rattle.stream.specs.Accepted.{held_fits}
 use Rattle.stream.proofs.Accepts.{accepts-free, accepts-by}
 use Rattle.stream.proofs.StreamCache.accepts.Goals as goal
@@ -23,9 +24,9 @@ returns-then-length-end c =
 pub returns-in_default : goal.returns-in_default
 returns-in_default c =
     let a = c.args in
-    sym (accepts-by a.self a.start a.end a.length (not-false _ c.if-not-self.false) ∙ rw (lt-ltb a.start a.end c.if-end-start.false, le-leb a.end a.length c.if-length-end.false) (ap (λ (h : Held). held_fits h a.self (a.end - a.start)) c.in_default.is))
+    sym (accepts-by a.self a.start a.end a.length (not-false _ c.if-not-self.false) ∙ rw (lt-ltb a.start a.end c.if-end-start.false, le-leb a.end a.length c.if-length-end.false) (ap (λ (h : Option Variant). held_fits h a.self (a.end - a.start)) c.in_default.is))
 
 pub returns : goal.returns
 returns c =
     let a = c.args in
-    c.is_fit.ensures ∙ sym (accepts-by a.self a.start a.end a.length (not-false _ c.if-not-self.false) ∙ rw (lt-ltb a.start a.end c.if-end-start.false, le-leb a.end a.length c.if-length-end.false) (ap (λ (h : Held). held_fits h a.self (a.end - a.start)) c.in-Is.is))
+    c.is_fit.ensures ∙ sym (accepts-by a.self a.start a.end a.length (not-false _ c.if-not-self.false) ∙ rw (lt-ltb a.start a.end c.if-end-start.false, le-leb a.end a.length c.if-length-end.false) (ap (λ (h : Option Variant). held_fits h a.self (a.end - a.start)) c.in-Some.is))

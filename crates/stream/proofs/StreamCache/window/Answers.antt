@@ -3,4 +3,4 @@ use Rattle.stream.proofs.StreamCache.window.Goals as goal
 
 pub returns : goal.returns
 unfolding window_of
-returns c = rw (c.reach.ensures, c.frame_of-frame.ensures, c.frame_samples_of-per.ensures.0)
+returns c = rw (c.reach.ensures, c.frame_of-frame.ensures, c.frame_samples-per.ensures.result)

@@ -1,7 +1,7 @@
+use Rattle.std.specs.Prelude.{Some, None}
 use Rattle.std.proofs.Common.{ℕ, ◌-◌, false, List, length, pos, sym, ap, ◌∙◌, eq-eqb, ne_eqb}
 use Rattle.num.specs.Lists.{part}
 use Rattle.stream.specs.declared.StreamCache.{StreamCache}
-use Rattle.stream.specs.declared.Opened.TheVariants.{NoFile, File}
 use Rattle.stream.specs.Cache.{Stock, stock, filled_with}
 use Rattle.stream.specs.Tick.{StreamTick, unheard, tick_of}
 use Rattle.stream.specs.Cached.{held_found, fresh_found, streamed_of}
@@ -63,22 +63,22 @@ pub returns-in_default-clause-result : goal.returns-in_default-clause-result
 returns-in_default-clause-result c =
     let a = c.args in
     let s = stock a.self.cache a.samples.now in
-    let f = found-fresh a.ram.now a.p s (eq-eqb (length a.samples.now) 128 c.if-samples-ne128.false) c.if-cache.false NoFile (sym c.initialize_sqv4-opened.ensures ∙ c.in_default.is) in
-    let e = tick-by a.ram.now a.p s a.self.phase a.self.active (fresh_found (part a.ram.now a.p.start (a.p.end - a.p.start)) a.samples.now NoFile) f in
+    let f = found-fresh a.ram.now a.p s (eq-eqb (length a.samples.now) 128 c.if-samples-ne128.false) c.if-cache.false None (sym c.initialize_sqv4-opened.ensures ∙ c.in_default.is) in
+    let e = tick-by a.ram.now a.p s a.self.phase a.self.active (fresh_found (part a.ram.now a.p.start (a.p.end - a.p.start)) a.samples.now None) f in
     (c.stopped.ensures ∙ ap (λ (x : StreamCache). record { cache = x; phase = a.self.phase; active = false; q8 = pos 0 }) c.empty.ensures ∙ ap streamed_of e)
 
 pub returns-in_default-clause-samples : goal.returns-in_default-clause-samples
 returns-in_default-clause-samples c =
     let a = c.args in
     let s = stock a.self.cache a.samples.now in
-    let f = found-fresh a.ram.now a.p s (eq-eqb (length a.samples.now) 128 c.if-samples-ne128.false) c.if-cache.false NoFile (sym c.initialize_sqv4-opened.ensures ∙ c.in_default.is) in
-    let e = tick-by a.ram.now a.p s a.self.phase a.self.active (fresh_found (part a.ram.now a.p.start (a.p.end - a.p.start)) a.samples.now NoFile) f in
+    let f = found-fresh a.ram.now a.p s (eq-eqb (length a.samples.now) 128 c.if-samples-ne128.false) c.if-cache.false None (sym c.initialize_sqv4-opened.ensures ∙ c.in_default.is) in
+    let e = tick-by a.ram.now a.p s a.self.phase a.self.active (fresh_found (part a.ram.now a.p.start (a.p.end - a.p.start)) a.samples.now None) f in
     (c.clear.ensures ∙ ap (λ (t : StreamTick Stock). t.stream.samples) e)
 
 pub play-requires-2-clause-fact_1 : goal.play-requires-2-clause-fact_1
 play-requires-2-clause-fact_1 c =
     let a = c.args in
-    let k = c.in-File in
+    let k = c.in-Some in
     let w = opened-accepted a.ram.now a.p.wants_v3 a.p.start a.p.end a.p.loop_addr k.variant k.info (sym c.initialize_sqv4-opened.ensures ∙ k.is) in
     (rw (c.stream_bytes-2.ensures, c.filled-c.ensures) (accepted-ready a.ram.now (filled_with k.variant k.info) a.p.start a.p.end w))
 
@@ -86,22 +86,22 @@ pub returns-clause-result : goal.returns-clause-result
 returns-clause-result c =
     let a = c.args in
     let s = stock a.self.cache a.samples.now in
-    let k = c.in-File in
+    let k = c.in-Some in
     let file = part a.ram.now a.p.start (a.p.end - a.p.start) in
-    let f = found-fresh a.ram.now a.p s (eq-eqb (length a.samples.now) 128 c.if-samples-ne128.false) c.if-cache.false (File k.variant k.info) (sym c.initialize_sqv4-opened.ensures ∙ k.is) in
+    let f = found-fresh a.ram.now a.p s (eq-eqb (length a.samples.now) 128 c.if-samples-ne128.false) c.if-cache.false (Some (k.variant, k.info)) (sym c.initialize_sqv4-opened.ensures ∙ k.is) in
     let e = ap (λ (d : List ℕ). tick_of a.p a.self.phase a.self.active (held_found d (stock c.filled-c.result a.samples.now) c.filled-c.result.variant)) c.stream_bytes-2.ensures
     ∙ ap (λ (x : StreamCache). tick_of a.p a.self.phase a.self.active (held_found file (stock x a.samples.now) x.variant)) c.filled-c.ensures
-    ∙ tick-by a.ram.now a.p s a.self.phase a.self.active (fresh_found file a.samples.now (File k.variant k.info)) f in
+    ∙ tick-by a.ram.now a.p s a.self.phase a.self.active (fresh_found file a.samples.now (Some (k.variant, k.info))) f in
     (c.play-2.ensures.result ∙ ap streamed_of e)
 
 pub returns-clause-samples : goal.returns-clause-samples
 returns-clause-samples c =
     let a = c.args in
     let s = stock a.self.cache a.samples.now in
-    let k = c.in-File in
+    let k = c.in-Some in
     let file = part a.ram.now a.p.start (a.p.end - a.p.start) in
-    let f = found-fresh a.ram.now a.p s (eq-eqb (length a.samples.now) 128 c.if-samples-ne128.false) c.if-cache.false (File k.variant k.info) (sym c.initialize_sqv4-opened.ensures ∙ k.is) in
+    let f = found-fresh a.ram.now a.p s (eq-eqb (length a.samples.now) 128 c.if-samples-ne128.false) c.if-cache.false (Some (k.variant, k.info)) (sym c.initialize_sqv4-opened.ensures ∙ k.is) in
     let e = ap (λ (d : List ℕ). tick_of a.p a.self.phase a.self.active (held_found d (stock c.filled-c.result a.samples.now) c.filled-c.result.variant)) c.stream_bytes-2.ensures
     ∙ ap (λ (x : StreamCache). tick_of a.p a.self.phase a.self.active (held_found file (stock x a.samples.now) x.variant)) c.filled-c.ensures
-    ∙ tick-by a.ram.now a.p s a.self.phase a.self.active (fresh_found file a.samples.now (File k.variant k.info)) f in
+    ∙ tick-by a.ram.now a.p s a.self.phase a.self.active (fresh_found file a.samples.now (Some (k.variant, k.info))) f in
     (c.play-2.ensures.samples ∙ ap (λ (t : StreamTick Stock). t.stream.samples) e)

@@ -12,7 +12,7 @@ returns-then-interpolate c =
     let r = c.blend_samples in
     rw (back w32 r.result (sfits_of r.type_inv))
     (r.ensures.result
-    ∙ rw (back w16 t₁.result (sfits_of t₁.type_inv), back w16 t₂.result (sfits_of t₂.type_inv), t₁.ensures, t₂.ensures, c.wrapping_add_usize.ensures.value, c.if-interpolate.true))
+    ∙ rw (back w16 t₁.result (sfits_of t₁.type_inv), back w16 t₂.result (sfits_of t₂.type_inv), t₁.ensures, t₂.ensures, c.if-interpolate.true))
 
 pub returns : goal.returns
 unfolding value_in

@@ -1,11 +1,10 @@
-use Rattle.std.proofs.Common.{◌≡◌, sym, ◌∙◌, arith}
+use Rattle.std.proofs.Common.{◌≡◌, sym, ◌∙◌, arith, Ok}
 use Rattle.sqv4.specs.Files.{inspected}
-use Rattle.sqv4.specs.declared.Inspected.TheVariants.{Accepted}
 use Rattle.stream.proofs.Openings.{header-fits}
 use Rattle.stream.proofs.file.open_bytes.Goals as goal
 
-found : (c : goal.Then-is_wanted) → inspected c.args.file.now ≡ Accepted c.in-Accepted.header
-found c = sym c.inspect-inspected.ensures.result ∙ c.in-Accepted.is
+found : (c : goal.Then-is_wanted) → inspected c.args.file.now ≡ Ok c.in-Ok.header
+found c = sym c.inspect.ensures.result ∙ c.in-Ok.is
 
 pub with_loop-requires : goal.with_loop-requires
 with_loop-requires c =

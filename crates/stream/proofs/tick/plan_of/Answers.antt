@@ -1,5 +1,5 @@
+use Rattle.std.specs.Prelude.{Some}
 use Rattle.std.proofs.Common.{ℕ, ap, le-ltb, lt-ltb, eq-eqb, ne_eqb}
-use Rattle.stream.specs.declared.Plan.TheVariants.{Sample}
 use Rattle.stream.specs.Tick.{plan_of}
 use Rattle.stream.proofs.tick.plan_of.Goals as goal
 
@@ -13,7 +13,7 @@ returns-then-count-eq0 c = rw (← c.whole-at.ensures.result, le-ltb _ _ c.if-at
 
 pub returns-then-p : goal.returns-then-p
 unfolding plan_of
-returns-then-p c = rw (← c.whole-at.ensures.result, le-ltb _ _ c.if-at-count.false, ne_eqb _ 0 c.if-count-eq0.false, c.if-p.true) (ap (λ (x : ℕ). Sample c.args.info.loop_sample x) c.phase_of.ensures)
+returns-then-p c = rw (← c.whole-at.ensures.result, le-ltb _ _ c.if-at-count.false, ne_eqb _ 0 c.if-count-eq0.false, c.if-p.true) (ap (λ (x : ℕ). Some (c.args.info.loop_sample, x)) c.phase_of.ensures)
 
 pub returns : goal.returns
 unfolding plan_of

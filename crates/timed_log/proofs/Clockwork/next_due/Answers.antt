@@ -1,16 +1,15 @@
+use Rattle.std.specs.Prelude.{Ok, Some, Err}
 use mathlib.Core.Path.{◌≡◌, sym, ap, ◌∙◌}
 use mathlib.Core.List.{List}
 use Prim.Native.Nat.{ℕ, ◌+◌, ◌≤◌, ◌<◌}
 use native.Mathlib.Omega.{arith}
 use lib.ListN.{length, drop}
+use borrow.Author.Rules.{rules}
 use Rattle.log_player.specs.Steps.{first_line}
 use Rattle.log_player.proofs.Stops.{line-part, stop-in}
-use Rattle.timed_log.specs.declared.Ahead.TheVariants.{Line, Bad}
 use Rattle.timed_log.specs.declared.Clockwork.{Clockwork}
-use Rattle.timed_log.specs.declared.TimedLine.{TimedLine}
-use Rattle.timed_log.specs.declared.TimedLine.TheVariants.{Due}
-use Rattle.timed_log.specs.Lines.{due_of, judged, placed, next_due}
-use Rattle.timed_log.proofs.Judging.{placed-bad, due-past, due-rest, due-long, due-line, due-is, taken_is}
+use Rattle.timed_log.specs.Lines.{as_due, line_ahead, TimedLine, due_of, judged, placed, next_due}
+use Rattle.timed_log.proofs.Judging.{due-past, due-rest, due-long, due-line, due-is, taken_is}
 use Rattle.timed_log.proofs.Clockwork.next_due.Goals as goal
 
 -- a line that ends inside the input, judged
@@ -29,7 +28,7 @@ module _ (k : Clockwork) (input : List ℕ) (from stop : ℕ) (s : stop ≡ from
   whole = ap (placed _ _) is ∙ due-line k input from stop s h n
 
   -- what is due begins in it
-  within : (stamp begin : ℕ) → line ≡ Due stamp begin → from + begin ≤ length input
+  within : (stamp begin : ℕ) → line ≡ Ok (as_due stamp begin) → from + begin ≤ length input
   within stamp begin e =
       let text : List ℕ = first_line (drop from input) in
       let t = taken_is k _ _ (due_of text) (sym is ∙ e) in
@@ -47,16 +46,18 @@ returns-then-stop-input c = due-long c.args.self c.args.input.now c.args.from _ 
 pub slice_bounds-due-end : goal.slice_bounds-due-end
 slice_bounds-due-end c = stop-in c.args.input.now c.args.from _ c.line_end-stop.ensures c.if-input-from.false
 
-pub returns-in_default : goal.returns-in_default
-returns-in_default c =
+pub returns-in_err-due : goal.returns-in_err-due
+returns-in_err-due c =
     let d = c.due.ensures ∙ ap due_of (line-part c.args.input.now c.args.from _ c.line_end-stop.ensures) in
-    ap Bad c.number.ensures ∙ placed-bad c.args.from (length (first_line (drop c.args.from c.args.input.now))) c.judged-line.result c.in_default.not-Due
-    ∙ whole c.args.self c.args.input.now c.args.from _ c.line_end-stop.ensures c.if-input-from.false c.if-stop-input.false _ _ d c.judged-line.ensures
+    let e : c.from_residual.result ≡ Err c.in_err-due.field-0.0 = search rules in
+    e
+    ∙ sym (ap (placed c.args.from (length (first_line (drop c.args.from c.args.input.now)))) c.in_err-due.was)
+    ∙ whole c.args.self c.args.input.now c.args.from _ c.line_end-stop.ensures c.if-input-from.false c.if-stop-input.false _ _ d c.judged.ensures
 
 pub overflow_add-result : goal.overflow_add-result
 overflow_add-result c =
     let d = c.due.ensures ∙ ap due_of (line-part c.args.input.now c.args.from _ c.line_end-stop.ensures) in
-    let h = within c.args.self c.args.input.now c.args.from _ c.line_end-stop.ensures c.if-input-from.false c.if-stop-input.false _ _ d c.judged-line.ensures _ _ c.in-Due.is in
+    let h = within c.args.self c.args.input.now c.args.from _ c.line_end-stop.ensures c.if-input-from.false c.if-stop-input.false _ _ d c.judged.ensures _ _ c.in_ok-due.was in
     omega (arith, h)
 
 pub returns : goal.returns
@@ -64,6 +65,6 @@ returns c =
     let stop = c.line_end-stop.ensures in
     let d = c.due.ensures ∙ ap due_of (line-part c.args.input.now c.args.from _ stop) in
     let to : c.line_end-stop.result + 1 ≡ c.args.from + length (first_line (drop c.args.from c.args.input.now)) + 1 = omega arith in
-    ap (λ (i : ℕ). Line c.in-Due.stamp (c.args.from + c.in-Due.begin) i) to
-    ∙ sym (ap (placed _ _) c.in-Due.is)
-    ∙ whole c.args.self c.args.input.now c.args.from _ stop c.if-input-from.false c.if-stop-input.false _ _ d c.judged-line.ensures
+    ap (λ (i : ℕ). Ok (Some (line_ahead c.in_ok-due.due.stamp (c.args.from + c.in_ok-due.due.from) i))) to
+    ∙ sym (ap (placed _ _) c.in_ok-due.was)
+    ∙ whole c.args.self c.args.input.now c.args.from _ stop c.if-input-from.false c.if-stop-input.false _ _ d c.judged.ensures

@@ -6,10 +6,10 @@ use Rattle.timed_log.specs.Unrolls.{reach, unroll_from}
 use Rattle.timed_log.proofs.Reaching.{Unrolling}
 use Rattle.timed_log.proofs.Clockwork.unroll.Given as goal
 
-abbrev pub invariant-loop-found : goal.invariant-loop-found
-invariant-loop-found l =
+abbrev pub invariant-loop-due : goal.invariant-loop-due
+invariant-loop-due l =
     (length l.plain ≡ length l.initial.plain) × Unrolling l.input (unroll_from (length l.initial.plain) l.input (reach l.initial.clock l.number l.from [])) l.clock l.line l.place l.initial.plain l.plain l.end
 
-abbrev pub decreases-loop-found : goal.decreases-loop-found
-decreases-loop-found l =
+abbrev pub decreases-loop-due : goal.decreases-loop-due
+decreases-loop-due l =
     length l.initial.plain - l.end

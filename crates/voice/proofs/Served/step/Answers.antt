@@ -1,4 +1,4 @@
-use Rattle.std.proofs.Common.{w32}
+use Rattle.std.proofs.Common.{refl, w32}
 use borrow.Author.Rules.{sfits_of}
 use Rattle.num.proofs.Integers.{back}
 use Rattle.voice.proofs.ServedTicks.{served}
@@ -10,4 +10,4 @@ returns c =
     let v = c.value-q8 in
     let q = back w32 v.result (sfits_of v.type_inv) in
     rw q
-    (served a.w a.samples.now a.base a.p a.g.volume a.g.panpot a.self _ _ _ _ _ _ c.whole.ensures.result c.fraction.ensures v.ensures (rw q at c.with_stream_value-sides.ensures) c.wrapping_add_usize.ensures.value c.stepped.ensures)
+    (served a.w a.samples.now a.base a.p a.g.volume a.g.panpot a.self _ _ _ _ _ _ c.whole.ensures.result c.fraction.ensures v.ensures (rw q at c.with_stream_value-sides.ensures) refl c.stepped.ensures)

@@ -1,8 +1,0 @@
-use mathlib.Core.Path.{refl}
-use Rattle.chip_calls.specs.Code.{code}
-use Rattle.chip_calls.proofs.Left.{same_left}
-use Rattle.chip_calls.proofs.state.read_channel_control.Goals as goal
-
-pub returns : goal.returns
-unfolding code
-returns c = record { code = same_left c.read_channel_control.ensures refl refl refl }

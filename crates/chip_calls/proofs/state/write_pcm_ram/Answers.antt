@@ -1,8 +1,0 @@
-use mathlib.Core.Path.{refl}
-use Rattle.chip_calls.specs.Code.{code}
-use Rattle.chip_calls.proofs.Left.{same_left}
-use Rattle.chip_calls.proofs.state.write_pcm_ram.Goals as goal
-
-pub returns : goal.returns
-unfolding code
-returns c = record { code = same_left c.write_pcm_ram.ensures.called c.write_pcm_ram.ensures.ram refl refl }

@@ -1,7 +1,0 @@
-use Rattle.chip_calls.specs.Code.{code}
-use Rattle.chip_calls.proofs.Left.{same_read}
-use Rattle.chip_calls.proofs.text.read_voice.Goals as goal
-
-pub returns : goal.returns
-unfolding code
-returns c = record { code = same_read c.read_voice.ensures.called c.read_voice.ensures.queues }

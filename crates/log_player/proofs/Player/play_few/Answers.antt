@@ -1,9 +1,0 @@
-use mathlib.Core.Path.{refl}
-use native.Mathlib.Omega.{arith}
-use Rattle.log_player.proofs.Lines.{silent-buffers}
-use Rattle.log_player.proofs.Player.play_few.Goals as goal
-
-pub play_over-requires-clause-fact_2 : goal.play_over-requires-clause-fact_2
-play_over-requires-clause-fact_2 c =
-    let a = c.args in
-    (silent-buffers a.kinds.now a.addresses.now a.values.now a.frames 64 1024 c.requires.fact_2 (omega (arith, c.requires.fact_2.3)) refl)

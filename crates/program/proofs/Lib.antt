@@ -1,3 +1,0 @@
-pub mod Keeping
-pub mod Flushed
-pub mod Reading

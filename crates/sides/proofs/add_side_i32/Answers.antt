@@ -1,9 +1,0 @@
-use Rattle.sides.specs.Sides.{wrapping}
-use Rattle.sides.proofs.Frames.{added-parts}
-use Rattle.sides.proofs.add_side_i32.Goals as goal
-
-pub returns : goal.returns
-returns c =
-    let a = c.args in
-    let l = c.least-both in
-    added-parts wrapping a.stems.now a.others.now a.hand a.first a.side.now a.count l.result l.ensures _ _ c.add_both_i32.ensures c.add_alone_i32.ensures
