@@ -85,6 +85,7 @@ impl Player {
         let mut place = from;
         let mut line = number;
         let mut end = 0;
+        // Kept as it is: a turn plays as many lines as there is room for, so there is no range or chain to go over.
         while has_room(out.len(), end, line) {
             let batch = player.batch(input, place, line, &mut *ram, &mut *queues, &mut *out, end);
             let first = line;

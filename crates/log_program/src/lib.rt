@@ -8,13 +8,26 @@ mod saving;
 
 use cores::CHIP_QUEUES;
 
-// A program over a log: whether it reads a state before the log, with voice lines as stored ones or as any, and whether it
-// prints the state in which the log leaves the player, and not the peaks.
+// A program over a log.
 #[derive(Clone, Copy)]
-pub(crate) struct Program {
-    pub loads: bool,
-    pub stored: bool,
-    pub saves: bool,
+pub(crate) enum Program {
+    // Plays it, and prints the peaks in the end.
+    Play,
+    // Prints the state in which it leaves the player in place of the peaks.
+    Save,
+    // Reads a state before it, with voice lines as stored ones or as any, and prints the state in the end, or the peaks.
+    Load { stored: bool, saves: bool },
+}
+
+impl Program {
+    // Whether a state is printed in the end.
+    pub(crate) fn saves(self) -> bool {
+        match self {
+            Program::Play => false,
+            Program::Save => true,
+            Program::Load { stored: _, saves } => saves,
+        }
+    }
 }
 
 // Where a run stands.
@@ -54,31 +67,16 @@ fn start(rt: &HostRuntime, program: Program) {
 
 // Plays the log on standard input and prints what it gives on standard output.
 pub fn play_log(rt: &HostRuntime) {
-    let program = Program {
-        loads: false,
-        stored: false,
-        saves: false,
-    };
-    start(rt, program);
+    start(rt, Program::Play);
 }
 
 // The same, and instead of the peaks the state in which the log leaves the player.
 pub fn save_log(rt: &HostRuntime) {
-    let program = Program {
-        loads: false,
-        stored: false,
-        saves: true,
-    };
-    start(rt, program);
+    start(rt, Program::Save);
 }
 
 // Reads such a state, and goes on with the log behind it; at its end it prints the peaks, or the state again. As a stored one
 // a state is read on a chip without a FIFO too that has something in its queues, and that is dropped.
 pub fn load_log(rt: &HostRuntime, stored: bool, saves: bool) {
-    let program = Program {
-        loads: true,
-        stored,
-        saves,
-    };
-    start(rt, program);
+    start(rt, Program::Load { stored, saves });
 }

@@ -189,6 +189,7 @@ fn play_behind(
 pub(crate) fn load_state(
     rt: &HostRuntime,
     program: Program,
+    stored: bool,
     fresh: Player,
     begin: Place,
     input: &mut [u8],
@@ -203,7 +204,7 @@ pub(crate) fn load_state(
             return;
         };
         let bytes = num::part(&*input, line.from, line.to);
-        let taken = log_state::take_line(program.stored, player, &*ram, &mut *queues, k, bytes);
+        let taken = log_state::take_line(stored, player, &*ram, &mut *queues, k, bytes);
         player = taken.player;
         place = behind(program, k, line, taken.answer, &mut *text);
     }

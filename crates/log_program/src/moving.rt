@@ -5,12 +5,10 @@ use session::LineRefusal;
 use std::io::Error;
 
 pub(crate) fn complain(program: Program, reason: &[u8]) {
-    if program.loads {
-        say(b"s3w2-load: ");
-    } else if program.saves {
-        say(b"s3w2-save: ");
-    } else {
-        say(b"s3w2-log: ");
+    match program {
+        Program::Play => say(b"s3w2-log: "),
+        Program::Save => say(b"s3w2-save: "),
+        Program::Load { .. } => say(b"s3w2-load: "),
     }
     say(reason);
 }

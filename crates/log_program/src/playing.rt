@@ -87,7 +87,7 @@ fn end(
     let Place::Ended { rest, number } = place else {
         return;
     };
-    if program.saves && rest == 0 {
+    if program.saves() && rest == 0 {
         save(program, player, text, ram, queues);
         return;
     }
@@ -136,8 +136,8 @@ fn begin(
     ram: &mut [u8],
     queues: &mut [i16],
 ) {
-    if program.loads {
-        load_state(rt, program, player, place, input, text, ram, queues);
+    if let Program::Load { stored, saves: _ } = program {
+        load_state(rt, program, stored, player, place, input, text, ram, queues);
     } else {
         go_on(rt, program, player, place, input, text, ram, queues);
     }

@@ -47,6 +47,7 @@ pub(crate) fn look_ahead(rt: &HostRuntime, input: &mut [u8]) -> Option<u64> {
 fn frames_in(log: &[u8]) -> u64 {
     let mut from = 0;
     let mut frames: u64 = 0;
+    // Kept as it is: a turn goes on by as many lines as were taken, so there is no range or chain to go over.
     while from < log.len() {
         let lines = log_sound::pass(log, from, FRAMES);
         if lines.from <= from {

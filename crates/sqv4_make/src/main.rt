@@ -21,6 +21,7 @@ pub(crate) struct Progress {
     pub filled: usize,
     pub lines: u64,
     pub terms: Terms,
+    // Kept as it is: the other fields count where it is false too, for `lines` says which line is bad.
     pub good: bool,
 }
 

@@ -46,6 +46,7 @@ fn again(source: &mut Source) {
 // The bytes of the input, of which some have been read, or some more than the longest file has.
 fn count_input(read: usize, window: &mut [u8]) -> usize {
     let mut count = num::least(read, 65536);
+    // Kept as it is: no index is counted here; each turn goes on by as many bytes as were read.
     while count <= LONGEST_READ {
         let got = num::least(io::read_full(STDIN, &mut *window), 65536);
         if got == 0 {

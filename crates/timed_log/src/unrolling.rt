@@ -114,6 +114,7 @@ impl Clockwork {
         let mut place = from;
         let mut line = number;
         let mut end = 0;
+        // Kept as it is: a turn writes out a line, or a thousand frames of the gap before it, so there is no range or chain to go over.
         while has_place(plain.len(), end, line) {
             let Ok(Some(due)) = clock.next_due(input, place) else {
                 return clock.unrolled(place, line, end);
