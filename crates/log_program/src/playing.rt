@@ -23,7 +23,7 @@ fn refused(program: Program) -> Place {
     Place::Stopped
 }
 
-// Where a run begins; `answer` is the number of what making its chip answered.
+// Where a run begins; `answer` is what making its chip answered.
 fn beginning(program: Program, answer: Answer) -> Place {
     if answer.is_err() {
         return refused(program);

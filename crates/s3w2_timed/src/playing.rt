@@ -39,7 +39,7 @@ fn refused() -> Place {
     Place::Stopped
 }
 
-// Where a run begins; `answer` is the number of what making its chip answered.
+// Where a run begins; `answer` is what making its chip answered.
 fn beginning(answer: Answer) -> Place {
     if answer.is_err() {
         return refused();
