@@ -30,24 +30,6 @@ impl Program {
     }
 }
 
-// Where a run stands.
-#[derive(Clone, Copy)]
-pub(crate) enum Place {
-    // The bytes of the input buffer from `from` to before `filled` are not played yet, and begin with line `number`.
-    Going {
-        from: usize,
-        filled: usize,
-        number: u64,
-    },
-    // The input has ended: `rest` bytes follow its last byte 10, and stand where line `number` would.
-    Ended {
-        rest: usize,
-        number: u64,
-    },
-    // It does not go on.
-    Stopped,
-}
-
 fn with_buffers(rt: &HostRuntime, program: Program, ram: &mut [u8], queues: &mut [i16]) {
     let mut input = io::large_buffer();
     // No multiple of 4,096 bytes: the two players on its two sides are copied to each other, which is slow at such a distance.

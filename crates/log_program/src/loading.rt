@@ -1,10 +1,10 @@
 // A state read from standard input.
+use crate::Program;
 use crate::moving::{read_behind, write_refusal, written};
 use crate::playing::go_on;
-use crate::{Place, Program};
 use log_player::Player;
 use log_state::{Found, LINES};
-use program::say;
+use program::{Place, say};
 use session::LineRefusal;
 use std::io::Error;
 
@@ -115,7 +115,11 @@ fn behind(
     text: &mut [u8],
 ) -> Place {
     if let Ok(()) = answer {
-        return Place::at(line.to, line.filled, 1);
+        return Place::Going {
+            from: line.to,
+            filled: line.filled,
+            number: 1,
+        };
     }
     write_refusal(program, answer, &mut *text);
     tell_line(k, text);
@@ -164,7 +168,11 @@ fn load_ram(
     let got = decimal::put_text(&mut *ram, 0, num::part(input, from, filled));
     let read = fill(rt, program, ram, got);
     match read {
-        Ok(Some(_)) => Place::at(from.min(input.len()) + got, filled, 1),
+        Ok(Some(_)) => Place::Going {
+            from: from.min(input.len()) + got,
+            filled,
+            number: 1,
+        },
         Ok(None) => cut_short(program, text),
         Err(_) => Place::Stopped,
     }

@@ -1,21 +1,11 @@
 // A log played from standard input.
+use crate::Program;
 use crate::loading::load_state;
 use crate::moving::{complain, read_behind, written};
 use crate::saving::save;
-use crate::{Place, Program};
 use log_player::{Player, Ran, Stop};
+use program::Place;
 use s3w2::Answer;
-
-impl Place {
-    // Goes on with the bytes from `from` to before `filled`.
-    pub(crate) fn at(from: usize, filled: usize, number: u64) -> Place {
-        Place::Going {
-            from,
-            filled,
-            number,
-        }
-    }
-}
 
 // The chip refuses calls over the RAM and the queue buffer.
 fn refused(program: Program) -> Place {
@@ -28,7 +18,11 @@ fn beginning(program: Program, answer: Answer) -> Place {
     if answer.is_err() {
         return refused(program);
     }
-    Place::at(0, 0, 1)
+    Place::Going {
+        from: 0,
+        filled: 0,
+        number: 1,
+    }
 }
 
 // Goes on with more input, if there is any.
@@ -43,7 +37,11 @@ fn refilled(
     let kept = program::keep(&mut *input, from, filled);
     let read = read_behind(rt, program, input, kept);
     match read {
-        Ok(Some(more)) => Place::at(0, more, number),
+        Ok(Some(more)) => Place::Going {
+            from: 0,
+            filled: more,
+            number,
+        },
         Ok(None) => Place::Ended { rest: kept, number },
         Err(_) => Place::Stopped,
     }
@@ -52,7 +50,11 @@ fn refilled(
 // Where a run goes on behind the lines that were played.
 fn behind(rt: &HostRuntime, program: Program, ran: Ran, filled: usize, input: &mut [u8]) -> Place {
     match ran.next {
-        Ok(Some(_)) => Place::at(ran.from, filled, ran.number),
+        Ok(Some(_)) => Place::Going {
+            from: ran.from,
+            filled,
+            number: ran.number,
+        },
         Ok(None) => refilled(rt, program, ran.from, filled, ran.number, input),
         Err(Stop::Bad(_)) => Place::Stopped,
         Err(Stop::Refused(_)) => refused(program),

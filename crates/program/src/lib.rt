@@ -33,6 +33,24 @@ pub struct BufferLine {
     pub filled: usize,
 }
 
+// Where a run over a log stands.
+#[derive(Clone, Copy)]
+pub enum Place {
+    // The bytes of the input buffer from `from` to before `filled` are not played or written out yet, and begin with line `number`.
+    Going {
+        from: usize,
+        filled: usize,
+        number: u64,
+    },
+    // The input has ended: `rest` bytes follow its last byte 10, and stand where line `number` would.
+    Ended {
+        rest: usize,
+        number: u64,
+    },
+    // It does not go on.
+    Stopped,
+}
+
 // Writes a text to standard error.
 pub fn say(text: &[u8]) {
     io::write_all(STDERR, text);

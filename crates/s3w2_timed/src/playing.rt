@@ -1,37 +1,8 @@
 // A timed log played from standard input. Here bytes are only read, moved and written; what is printed is timed_log's.
 use log_player::Stop;
-use program::{STDOUT, say};
+use program::{Place, STDOUT, say};
 use s3w2::Answer;
 use timed_log::{Finished, Timed, TimedRan};
-
-// Where a run stands.
-#[derive(Clone, Copy)]
-enum Place {
-    // The bytes of the input buffer from `from` to before `filled` are not written out yet, and begin with line `number`.
-    Going {
-        from: usize,
-        filled: usize,
-        number: u64,
-    },
-    // The input has ended: `rest` bytes follow its last byte 10, and stand where line `number` would.
-    Ended {
-        rest: usize,
-        number: u64,
-    },
-    // It does not go on.
-    Stopped,
-}
-
-impl Place {
-    // Goes on with the bytes from `from` to before `filled`.
-    fn at(from: usize, filled: usize, number: u64) -> Place {
-        Place::Going {
-            from,
-            filled,
-            number,
-        }
-    }
-}
 
 // The chip refuses calls over the RAM and the queue buffer.
 fn refused() -> Place {
@@ -44,7 +15,11 @@ fn beginning(answer: Answer) -> Place {
     if answer.is_err() {
         return refused();
     }
-    Place::at(0, 0, 1)
+    Place::Going {
+        from: 0,
+        filled: 0,
+        number: 1,
+    }
 }
 
 // Writes the text's bytes before `end` to standard output, and answers whether it could.
@@ -77,7 +52,11 @@ fn refilled(rt: &HostRuntime, from: usize, filled: usize, number: u64, input: &m
     let kept = program::keep(&mut *input, from, filled);
     let read = program::read_behind(rt, input, kept);
     match read {
-        Ok(Some(more)) => Place::at(0, more, number),
+        Ok(Some(more)) => Place::Going {
+            from: 0,
+            filled: more,
+            number,
+        },
         Ok(None) => Place::Ended { rest: kept, number },
         Err(_) => {
             say(b"s3w2-timed: the input cannot be read\n");
@@ -89,7 +68,11 @@ fn refilled(rt: &HostRuntime, from: usize, filled: usize, number: u64, input: &m
 // Where a run goes on behind the lines that were played.
 fn behind(rt: &HostRuntime, ran: TimedRan, filled: usize, input: &mut [u8]) -> Place {
     match ran.next {
-        Ok(Some(_)) => Place::at(ran.from, filled, ran.number),
+        Ok(Some(_)) => Place::Going {
+            from: ran.from,
+            filled,
+            number: ran.number,
+        },
         Ok(None) => refilled(rt, ran.from, filled, ran.number, input),
         Err(Stop::Bad(_)) => Place::Stopped,
         Err(Stop::Refused(_)) => refused(),
