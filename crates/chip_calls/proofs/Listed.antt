@@ -19,14 +19,13 @@ use Rattle.version.specs.Versions.{version_of, core_count}
 use Rattle.voices.proofs.Widths.{part-sets-in}
 use Rattle.frames.specs.declared.Asked.{Asked}
 use Rattle.frames.specs.declared.Asked.TheVariants as variants
-use Rattle.frames.specs.Listing.{read_register_kind, asked_of}
+use Rattle.frames.specs.Listing.{asked_of}
 use Rattle.frames.specs.Turning.{Turns, frames}
 use Rattle.frames.proofs.Framing.{frames-long}
-use Rattle.s3w2.specs.Answers.{Checked, unless, answered}
+use Rattle.s3w2.specs.Answers.{Checked, unless}
 use Rattle.s3w2.specs.Chips.{core_at, core_queues}
 use Rattle.s3w2.specs.Refusals.{accepts_chip, refusal, sound_refusal, clock_refusal}
-use Rattle.chip_lists.specs.Plays.{Playing, shown_by, stems_played, clock_played, call_played, calls_played}
-use Rattle.s3w2.specs.Registers.{read_register_called, peek_register_answer}
+use Rattle.chip_lists.specs.Plays.{Playing, stems_played, clock_played, call_played, calls_played}
 use Rattle.chip_sound.specs.Sound.{silent_turns, core_frames, clock_called, clock_stems}
 use Rattle.call_lists.specs.Runs.{after}
 use Rattle.call_lists.specs.Calls.{Call, set_version, write_register, read_register, peek_register, write_pcm_ram, clock}
@@ -50,16 +49,12 @@ module _ (kinds addresses : List ℕ) (m : Machine) (cs : List Call) (n : ℕ) (
   one_more : (c : Call) → after code m (cs ++ (c ∷ [])) ≡ (code (of_playing b) c).next
   one_more c = after_one m cs c ∙ ap (λ (x : Machine). (code x c).next) ih
 
-  look-more : (t : Bool) → (code (of_playing b) (cond t (read_register 0 a) (peek_register 0 a))).next ≡ of_playing (shown_by b n (cond t (read_register_called b.chip 0 a) (answered b.chip (peek_register_answer b.chip 0 a))))
-  unfolding code
-  look-more true = refl
-  look-more false = refl
-
   call-more : (t : Asked) → after code m (cs ++ single_call kinds addresses t n b) ≡ of_playing (call_played kinds addresses t n b)
   unfolding code
   call-more variants.WriteRegister = one_more (write_register 0 a (get_or b.values n 0))
   call-more variants.WritePcmRam = one_more (write_pcm_ram a (get_or b.values n 0))
-  call-more variants.Look = let t = eqb (get_or kinds n 0) read_register_kind in one_more (cond t (read_register 0 a) (peek_register 0 a)) ∙ look-more t
+  call-more variants.Read = one_more (read_register 0 a)
+  call-more variants.Peek = one_more (peek_register 0 a)
   call-more variants.Clock = one_more (clock a (clear_stems a)) ∙ ap (λ (m : ℕ). machine (clock_called b.chip b.ram b.queues a m).chip b.ram b.queues) (length-replicate (chip_stems * a) (pos 0))
   call-more variants.SetVersion = one_more (set_version (version_of a))
   call-more variants.Nothing = ap (after code m) (append-nil cs) ∙ ih

@@ -1,10 +1,10 @@
 -- The single calls that a list stands for.
-use Rattle.std.specs.Prelude.{cond, List, [], ◌∷◌, ◌++◌, ℕ, zero, suc, ◌*◌, eqb, ℤ, pos, get_or, replicate}
+use Rattle.std.specs.Prelude.{List, [], ◌∷◌, ◌++◌, ℕ, zero, suc, ◌*◌, ℤ, pos, get_or, replicate}
 use Rattle.cores.specs.Sizes.{chip_stems}
 use Rattle.version.specs.Versions.{version_of}
 use Rattle.frames.specs.declared.Asked.{Asked}
-use Rattle.frames.specs.declared.Asked.TheVariants.{WriteRegister, WritePcmRam, Look, Clock, SetVersion, Nothing}
-use Rattle.frames.specs.Listing.{read_register_kind, asked_of}
+use Rattle.frames.specs.declared.Asked.TheVariants.{WriteRegister, WritePcmRam, Read, Peek, Clock, SetVersion, Nothing}
+use Rattle.frames.specs.Listing.{asked_of}
 use Rattle.chip_lists.specs.Plays.{Playing, calls_played}
 use Rattle.call_lists.specs.Calls.{Call, set_version, write_register, read_register, peek_register, write_pcm_ram, clock}
 
@@ -17,7 +17,8 @@ module _ (kinds addresses : List ℕ) where
   abbrev pub single_call : Asked → ℕ → Playing → List Call
   single_call WriteRegister i s = write_register 0 (get_or addresses i 0) (get_or s.values i 0) ∷ []
   single_call WritePcmRam i s = write_pcm_ram (get_or addresses i 0) (get_or s.values i 0) ∷ []
-  single_call Look i s = cond (eqb (get_or kinds i 0) read_register_kind) (read_register 0 (get_or addresses i 0)) (peek_register 0 (get_or addresses i 0)) ∷ []
+  single_call Read i s = read_register 0 (get_or addresses i 0) ∷ []
+  single_call Peek i s = peek_register 0 (get_or addresses i 0) ∷ []
   single_call Clock i s = clock (get_or addresses i 0) (clear_stems (get_or addresses i 0)) ∷ []
   single_call SetVersion i s = set_version (version_of (get_or addresses i 0)) ∷ []
   single_call Nothing i s = []

@@ -17,7 +17,8 @@ use Rattle.voices.specs.Writes.{after_ram_write}
 use Rattle.voices.specs.declared.Core.{Core}
 use Rattle.frames.specs.declared.Asked.{Asked}
 use Rattle.frames.specs.declared.Asked.TheVariants as variants
-use Rattle.frames.specs.Listing.{asked_of, Listed, lent_list, call_as}
+use Rattle.frames.specs.Listing.{asked_of, Listed, lent_list, LeftBy, AcceptedAfter, call_as}
+use Rattle.frames.specs.declared.Played.{Played}
 use Rattle.frames.specs.Turning.{Turns, no_turn}
 use Rattle.s3w2.specs.declared.Chip.{Chip}
 use Rattle.s3w2.specs.Chips.{core_at, no_core}
@@ -83,7 +84,8 @@ module _ (kinds addresses : List ℕ) (chip : Chip) (ram : List ℕ) (queues : L
         version-same = refl;
         long = length-set ram a v;
       }
-  agains variants.Look = record { same = refl; ram-same = refl; version-same = refl; long = refl }
+  agains variants.Read = record { same = refl; ram-same = refl; version-same = refl; long = refl }
+  agains variants.Peek = record { same = refl; ram-same = refl; version-same = refl; long = refl }
   agains variants.Clock = record { same = refl; ram-same = refl; version-same = refl; long = refl }
   agains variants.SetVersion = record { same = refl; ram-same = refl; version-same = refl; long = refl }
   agains variants.Nothing = record { same = refl; ram-same = refl; version-same = refl; long = refl }
@@ -95,27 +97,23 @@ module _ (kinds addresses : List ℕ) (chip : Chip) (ram : List ℕ) (queues : L
   X = call_as kinds addresses 0 4 t 0 first
 
   -- after core 0 and before core 1
-  pub record First (p : Listed) (next : Core) (under : SguVersion) (ram1 : List ℕ) (lower : List ℤ) (values1 : List ℕ) (stems1 : List ℤ) : Type 0 where
+  pub record First (p : Listed) (u : Played) (ram1 : List ℕ) (lower : List ℤ) (values1 : List ℕ) (stems1 : List ℤ) : Type 0 where
     pub is : call_as kinds addresses 0 4 (asked_of (get_or kinds 0 0)) 0 (lent_first chip ram queues values) ≡ p
-    pub core_is : next ≡ p.core
-    pub version-is : under ≡ p.version
-    pub ram-is : ram1 ≡ p.ram
-    pub lower-is : lower ≡ p.queues
-    pub values-is : values1 ≡ p.values
-    pub stems-is : stems1 ≡ sets stems 0 p.stems
-    pub accepted : accepts_core next under (length ram) ≡ true
+    pub played-is : u ≡ record { core = p.core; version = p.version }
+    pub left : LeftBy p 0 stems ram1 lower values1 stems1
+    pub accepted : AcceptedAfter p (length ram)
 
-  module _ (p : Listed) (next : Core) (under : SguVersion) (ram1 : List ℕ) (lower : List ℤ) (values1 : List ℕ) (stems1 : List ℤ) (f : First p next under ram1 lower values1 stems1) where
+  module _ (p : Listed) (u : Played) (ram1 : List ℕ) (lower : List ℤ) (values1 : List ℕ) (stems1 : List ℤ) (f : First p u ram1 lower values1 stems1) where
     ram-first : ram1 ≡ X.ram
-    ram-first = f.ram-is ∙ ap (λ (x : Listed). x.ram) (sym f.is)
+    ram-first = f.left.ram_is ∙ ap (λ (x : Listed). x.ram) (sym f.is)
 
     values-first : values1 ≡ X.values
-    values-first = f.values-is ∙ ap (λ (x : Listed). x.values) (sym f.is)
+    values-first = f.left.values_is ∙ ap (λ (x : Listed). x.values) (sym f.is)
 
     pub one_left : (ends : List ℤ) → ends ≡ drop queue_buffer queues → (other : Core) (ram2 : List ℕ) (ends2 queues2 : List ℤ) (values2 : List ℕ) (others2 : List ℤ)
         → SecondLeaves kinds addresses (asked_of (get_or kinds 0 0)) (lent_list (core_at chip 1) chip.version ram1 ends values1) others other ram2 ends2 values2 others2
         → queues2 ≡ lower ++ ends2
-        → Leaves (calls_played kinds addresses 1 (playing chip ram queues values stems others)) (record { version = under; cores = next ∷ other ∷ [] }) ram2 queues2 values2 stems1 others2
+        → Leaves (calls_played kinds addresses 1 (playing chip ram queues values stems others)) (record { version = u.version; cores = u.core ∷ other ∷ [] }) ram2 queues2 values2 stems1 others2
     unfolding calls_played
     one_left ends eu other ram2 ends2 queues2 values2 others2 l eq =
         let k : SecondLeaves kinds addresses t (again t) others other ram2 ends2 values2 others2 = subst (λ (y : Listed). SecondLeaves kinds addresses t y others other ram2 ends2 values2 others2) (λ j. lent_list b chip.version (ram-first j) (eu j) (values-first j)) l in
@@ -124,17 +122,17 @@ module _ (kinds addresses : List ℕ) (chip : Chip) (ram : List ℕ) (queues : L
         let same-stems : others2 ≡ sets others 0 (second ram t).stems = k.others-is ∙ ap (λ (u : Turns). sets others 0 u.stems) n.same in
         let ram-last : ram2 ≡ X.ram = k.ram-is ∙ n.ram-same in
         let whole = sym (ap (call_played kinds addresses t 0) (playing-as chip ram queues values stems others two) ∙ call-played stems others upper first b [] 0 g.allowed (lower_long queues g.lent) (upper_long queues g.lent) g.accepted refl refl kinds addresses t 0) in
-        let under-is : under ≡ X.version = f.version-is ∙ ap (λ (x : Listed). x.version) (sym f.is) in
-        let next-is : next ≡ X.core = f.core_is ∙ ap (λ (x : Listed). x.core) (sym f.is) in
-        let lower-is : lower ≡ X.queues = f.lower-is ∙ ap (λ (x : Listed). x.queues) (sym f.is) in
+        let under-is : u.version ≡ X.version = ap (λ (x : Played). x.version) f.played-is ∙ ap (λ (x : Listed). x.version) (sym f.is) in
+        let next-is : u.core ≡ X.core = ap (λ (x : Played). x.core) f.played-is ∙ ap (λ (x : Listed). x.core) (sym f.is) in
+        let lower-is : lower ≡ X.queues = f.left.queues_is ∙ ap (λ (x : Listed). x.queues) (sym f.is) in
         let last : length ram2 ≡ length ram = ap length ram-last ∙ n.long in
         record {
           chip-is = (λ j. record { version = under-is j; cores = next-is j ∷ same-core j ∷ [] }) ∙ ap (λ (y : Playing). y.chip) whole;
           ram-is = ram-last ∙ ap (λ (y : Playing). y.ram) whole;
           queues-is = eq ∙ (λ j. lower-is j ++ k.queues-is j) ∙ ap (λ (y : Playing). y.queues) whole;
           values-is = k.values-is ∙ ap (λ (y : Playing). y.values) whole;
-          stems-is = f.stems-is ∙ ap (λ (x : Listed). sets stems 0 x.stems) (sym f.is) ∙ ap (λ (y : Playing). y.stems) whole;
+          stems-is = f.left.stems_is ∙ ap (λ (x : Listed). sets stems 0 x.stems) (sym f.is) ∙ ap (λ (y : Playing). y.stems) whole;
           others-is = same-stems ∙ ap (λ (y : Playing). y.others) whole;
-          accepted = together (accepts_core next under (length ram2)) (accepts_core other under (length ram2)) (ap (accepts_core next under) last ∙ f.accepted)
+          accepted = together (accepts_core u.core u.version (length ram2)) (accepts_core other u.version (length ram2)) (ap (accepts_core u.core u.version) last ∙ ap (λ (x : Played). accepts_core x.core x.version (length ram)) f.played-is ∙ f.accepted)
               (subst (λ (v : SguVersion). accepts_core other v (length ram2) ≡ true) (n.version-same ∙ sym under-is) (ap (accepts_core other (call_as kinds addresses 0 4 t 0 (again t)).version) (last ∙ sym n.long) ∙ k.accepted));
         }

@@ -24,7 +24,7 @@ use Rattle.voices.specs.declared.Core.{Core}
 use Rattle.voices.proofs.Voices.{length-register-queues}
 use Rattle.frames.specs.declared.Asked.{Asked}
 use Rattle.frames.specs.declared.Asked.TheVariants as variants
-use Rattle.frames.specs.Listing.{read_register_kind, Listed, clock_turns, written, byte_stored, looked, under_version, call_as, clocked_as}
+use Rattle.frames.specs.Listing.{Listed, clock_turns, written, byte_stored, looked, under_version, call_as, clocked_as}
 use Rattle.frames.specs.Turning.{Turns, turned, frames}
 use Rattle.frames.proofs.Counts.{zero-add}
 use Rattle.frames.proofs.Framing.{frames-turns}
@@ -142,11 +142,14 @@ module _ (stems₀ others₀ upper : List ℤ) where
         let k = done-kept r x.ram (set x.ram a v) with-ram in
         λ j. record { chip = p j; ram = k j; queues = q; values = x.values; stems = s.stems; others = s.others; frames = f }
 
-    look-played : (i a : ℕ) (t : Bool) → shown_by s i (cond t (read_register_called c 0 a) (answered c (peek_register_answer c 0 a))) ≡ as_playing (looked x i a t) b o f
-    unfolding read_register_called peek_register_answer
-    look-played i a true =
+    read-played : (i a : ℕ) → shown_by s i (read_register_called c 0 a) ≡ as_playing (looked x i a true) b o f
+    unfolding read_register_called
+    read-played i a =
         ap (shown_by s i) (done-called (own_refusal c) c (answered (with_cores c (after_read_register x.core a) b) (Ok (Byte (peek_register x.version x.core a)))) own)
-    look-played i a false =
+
+    peek-played : (i a : ℕ) → shown_by s i (answered c (peek_register_answer c 0 a)) ≡ as_playing (looked x i a false) b o f
+    unfolding peek_register_answer
+    peek-played i a =
         ap (λ (u : Answer). shown_by s i (answered c u)) (done-kept (own_refusal c) (done_unless (own_refusal c)) (Ok (Byte (peek_register x.version x.core a))) own)
 
     version-played : (v : SguVersion) → version_played s v ≡ as_playing (under_version x v) (set_core_version b v) o f
@@ -199,7 +202,8 @@ module _ (stems₀ others₀ upper : List ℤ) where
         (o ++ (second_called x.version x.ram upper t (get_or addresses i 0) b).stems) (f + clocked_as t (get_or addresses i 0))
     call-played kinds addresses variants.WriteRegister i = register-played (get_or addresses i 0) (get_or x.values i 0) ∙ still (written x (get_or addresses i 0) (get_or x.values i 0)) b
     call-played kinds addresses variants.WritePcmRam i = byte-played (get_or addresses i 0) (get_or x.values i 0) ∙ still (byte_stored x (get_or addresses i 0) (get_or x.values i 0)) _
-    call-played kinds addresses variants.Look i = look-played i (get_or addresses i 0) (eqb (get_or kinds i 0) read_register_kind) ∙ still (looked x i (get_or addresses i 0) (eqb (get_or kinds i 0) read_register_kind)) b
+    call-played kinds addresses variants.Read i = read-played i (get_or addresses i 0) ∙ still (looked x i (get_or addresses i 0) true) b
+    call-played kinds addresses variants.Peek i = peek-played i (get_or addresses i 0) ∙ still (looked x i (get_or addresses i 0) false) b
     call-played kinds addresses variants.Clock i = clock-played (get_or addresses i 0)
     call-played kinds addresses variants.SetVersion i = version-played (version_of (get_or addresses i 0)) ∙ still (under_version x (version_of (get_or addresses i 0))) _
     call-played kinds addresses variants.Nothing i = still x b

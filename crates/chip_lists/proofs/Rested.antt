@@ -7,7 +7,6 @@ use native.Mathlib.Omega.{arith}
 use lib.Dec.{ltb}
 use lib.IntN.{ℤ, pos}
 use lib.ListN.{length, length-set, length-replicate, get_or, take, drop, replicate, replicate-append-replicate}
-use lib.Seq.{sets}
 use borrow.Author.Tests.{eq-eqb}
 use Rattle.sizes.specs.Sizes.{queue_buffer, stems_per_frame}
 use Rattle.cores.specs.Sizes.{num_cores}
@@ -21,7 +20,10 @@ use Rattle.voices.proofs.Accepting.{core-accepted}
 use Rattle.voices.proofs.Voices.{length-register-queues}
 use Rattle.frames.specs.declared.Asked.{Asked}
 use Rattle.frames.specs.declared.Asked.TheVariants as variants
-use Rattle.frames.specs.Listing.{asked_of, Listed, call_as, listed, clocked_as, clocked_by, frames_asked, call_count, EachAccepted, may_play, played_of}
+use Rattle.frames.specs.Listing.{asked_of, Listed, after_list, LeftBy, AcceptedAfter, call_as, listed, clocked_as, clocked_by, frames_asked, call_count, EachAccepted, may_play, played_of}
+use Rattle.frames.specs.declared.Played.{Played}
+use Rattle.std.specs.Prelude.{Some}
+use Rattle.std.proofs.lemmas.Option.{same_Some}
 use Rattle.frames.specs.Turning.{Turns, frames, no_turn}
 use Rattle.frames.proofs.Asks.{asked, may-play, opened}
 use Rattle.frames.proofs.Counts.{zero-add}
@@ -44,7 +46,8 @@ module _ (kinds addresses : List ℕ) where
   call-lengths : (t : Asked) (i : ℕ) (s : Listed) → (length (call_as kinds addresses 0 4 t i s).ram ≡ length s.ram) × (length (call_as kinds addresses 0 4 t i s).queues ≡ length s.queues)
   call-lengths variants.WriteRegister i s = (refl, length-register-queues s.version s.core s.queues (get_or addresses i 0) (get_or s.values i 0))
   call-lengths variants.WritePcmRam i s = (length-set s.ram (get_or addresses i 0) (get_or s.values i 0), refl)
-  call-lengths variants.Look i s = (refl, refl)
+  call-lengths variants.Read i s = (refl, refl)
+  call-lengths variants.Peek i s = (refl, refl)
   call-lengths variants.Clock i s = (refl, refl)
   call-lengths variants.SetVersion i s = (refl, refl)
   call-lengths variants.Nothing i s = (refl, refl)
@@ -78,7 +81,8 @@ module _ (b : Core) (r : rests b ≡ true) (z : SizedCore b) where
   second-rests : (version : SguVersion) (ram : List ℕ) (queues : List ℤ) (t : Asked) (a : ℕ) → second_called version ram queues t a b ≡ silent_turns (clocked_as t a) b
   second-rests version ram queues variants.WriteRegister a = refl
   second-rests version ram queues variants.WritePcmRam a = ap no_turn (same-core (ltb a (length ram)) _ (rest-ram b r a))
-  second-rests version ram queues variants.Look a = refl
+  second-rests version ram queues variants.Read a = refl
+  second-rests version ram queues variants.Peek a = refl
   second-rests version ram queues variants.Clock a = either (ltb 1 (core_count version)) (frames version ram queues a b) (silent_turns a b) (rest-frames b r version ram queues a)
   second-rests version ram queues variants.SetVersion a = ap no_turn (rest-version b r z (version_of a))
   second-rests version ram queues variants.Nothing a = refl
@@ -135,16 +139,14 @@ module _ (kinds addresses : List ℕ) (chip : Chip) (ram : List ℕ) (queues : L
   p = played_of kinds addresses (length stems) l
 
   pub first-left : (may_play kinds addresses (length stems) (lent_first chip ram queues values) ≡ true → EachAccepted kinds addresses 0 4 0 (call_count kinds addresses values) (lent_first chip ram queues values))
-      → (next : Core) (under : SguVersion) (ram1 : List ℕ) (lower : List ℤ) (values1 : List ℕ) (stems1 others1 : List ℤ)
-      → next ≡ (played_of kinds addresses (length stems) (lent_first chip ram queues values)).core
-      → under ≡ (played_of kinds addresses (length stems) (lent_first chip ram queues values)).version
-      → ram1 ≡ (played_of kinds addresses (length stems) (lent_first chip ram queues values)).ram
-      → lower ≡ (played_of kinds addresses (length stems) (lent_first chip ram queues values)).queues
-      → values1 ≡ (played_of kinds addresses (length stems) (lent_first chip ram queues values)).values
-      → stems1 ≡ sets stems 0 (played_of kinds addresses (length stems) (lent_first chip ram queues values)).stems
-      → others1 ≡ replicate (length others) (pos 0) → (accepts_core (core_at chip 0) chip.version (length ram) ≡ true → accepts_core next under (length ram) ≡ true)
-      → Leaves (all_played kinds addresses (playing chip ram queues values stems others)) (record { version = under; cores = next ∷ core_at chip 1 ∷ [] }) ram1 (lower ++ drop queue_buffer queues) values1 stems1 others1
-  first-left each next under ram1 lower values1 stems1 others1 en eu er ew ev es eo ok =
+      → (u : Played) (ram1 : List ℕ) (lower : List ℤ) (values1 : List ℕ) (stems1 others1 : List ℤ)
+      → Some u ≡ after_list (played_of kinds addresses (length stems) (lent_first chip ram queues values))
+      → LeftBy (played_of kinds addresses (length stems) (lent_first chip ram queues values)) 0 stems ram1 lower values1 stems1
+      → others1 ≡ replicate (length others) (pos 0)
+      → (accepts_core (core_at chip 0) chip.version (length ram) ≡ true → AcceptedAfter (played_of kinds addresses (length stems) (lent_first chip ram queues values)) (length ram))
+      → Leaves (all_played kinds addresses (playing chip ram queues values stems others)) (record { version = u.version; cores = u.core ∷ core_at chip 1 ∷ [] }) ram1 (lower ++ drop queue_buffer queues) values1 stems1 others1
+  first-left each u ram1 lower values1 stems1 others1 su left eo ok =
+      let is : u ≡ record { core = p.core; version = p.version } = same_Some _ _ su in
       let f = frames_asked kinds addresses 0 n in
       let upper = drop queue_buffer queues in
       let low = lower_long queues g.lent in
@@ -155,14 +157,14 @@ module _ (kinds addresses : List ℕ) (chip : Chip) (ram : List ℕ) (queues : L
       ∙ list-rests b r z kinds addresses l stems others upper g.allowed low high refl n (each first-may) n (omega arith)
       ∙ ap (λ (x : Listed). as_playing stems others upper x b (zeros f) f) e)
       in
-      let long : length ram1 ≡ length ram = ap length (er ∙ ap (λ (x : Listed). x.ram) (sym e)) ∙ (list-lengths kinds addresses n l).0 in
+      let long : length ram1 ≡ length ram = ap length (left.ram_is ∙ ap (λ (x : Listed). x.ram) (sym e)) ∙ (list-lengths kinds addresses n l).0 in
       let full : length others ≡ stems_per_frame * f = g.alike ∙ g.enough in
       record {
-        chip-is = (λ j. record { version = eu j; cores = en j ∷ b ∷ [] }) ∙ ap (λ (y : Playing). y.chip) whole;
-        ram-is = er ∙ ap (λ (y : Playing). y.ram) whole;
-        queues-is = ap (λ (q : List ℤ). q ++ upper) ew ∙ ap (λ (y : Playing). y.queues) whole;
-        values-is = ev ∙ ap (λ (y : Playing). y.values) whole;
-        stems-is = es ∙ ap (λ (y : Playing). y.stems) whole;
+        chip-is = (λ j. record { version = (is j).version; cores = (is j).core ∷ b ∷ [] }) ∙ ap (λ (y : Playing). y.chip) whole;
+        ram-is = left.ram_is ∙ ap (λ (y : Playing). y.ram) whole;
+        queues-is = ap (λ (q : List ℤ). q ++ upper) left.queues_is ∙ ap (λ (y : Playing). y.queues) whole;
+        values-is = left.values_is ∙ ap (λ (y : Playing). y.values) whole;
+        stems-is = left.stems_is ∙ ap (λ (y : Playing). y.stems) whole;
         others-is = eo ∙ ap (λ (k : ℕ). replicate k (pos 0)) full ∙ sym (sets-all others (zeros f) (full ∙ sym (length-replicate (stems_per_frame * f) (pos 0)))) ∙ ap (λ (y : Playing). y.others) whole;
-        accepted = together (accepts_core next under (length ram1)) (accepts_core b under (length ram1)) (ap (accepts_core next under) long ∙ ok (core-accepts chip (length ram) g.accepted 0 (omega arith))) (rest-accepted b r z under (length ram1));
+        accepted = together (accepts_core u.core u.version (length ram1)) (accepts_core b u.version (length ram1)) (ap (accepts_core u.core u.version) long ∙ ap (λ (x : Played). accepts_core x.core x.version (length ram)) is ∙ ok (core-accepts chip (length ram) g.accepted 0 (omega arith))) (rest-accepted b r z u.version (length ram1));
       }

@@ -1,11 +1,10 @@
 -- A call of a list is a list of one call over its own parts of the list and of the stem buffers. Assumes nothing.
 use Rattle.std.specs.Prelude.{is_ok}
 use mathlib.Core.Path.{◌≡◌, refl, sym, ap, ◌∙◌}
-use mathlib.Core.Bool.{cond}
 use mathlib.Core.List.{List, []}
 use Prim.Native.Nat.{ℕ, ◌+◌, ◌*◌, ◌≤◌, ◌<◌}
 use native.Mathlib.Omega.{arith}
-use lib.Dec.{eqb, ltb}
+use lib.Dec.{ltb}
 use lib.IntN.{ℤ, pos}
 use lib.ListN.{length, length-replicate, get_or, drop, set}
 use lib.Seq.{sets, take-take}
@@ -15,10 +14,11 @@ use Rattle.num.proofs.Choice.{cond-by}
 use Rattle.version.specs.Versions.{version_of, core_count}
 use Rattle.frames.specs.declared.Asked.{Asked}
 use Rattle.frames.specs.declared.Asked.TheVariants as variants
-use Rattle.frames.specs.Listing.{read_register_kind, asked_of, clocked_as, clocked_by}
+use Rattle.frames.specs.Listing.{asked_of, clocked_as, clocked_by}
 use Rattle.frames.specs.Turning.{Turns, frames}
 use Rattle.frames.proofs.Framing.{frames-long}
 use Rattle.frames.proofs.Parts.{part_length, part-back}
+use Rattle.s3w2.specs.declared.Called.{Called}
 use Rattle.s3w2.specs.Answers.{byte_answered, unless, answered}
 use Rattle.s3w2.specs.Refusals.{sound_refusal}
 use Rattle.s3w2.specs.Chips.{core_at, core_queues}
@@ -28,20 +28,21 @@ use Rattle.chip_lists.specs.Plays.{Playing, playing, register_played, byte_playe
 use Rattle.chip_lists.proofs.Parts.{part-one, one_at}
 use Rattle.chip_sound.proofs.Runs.{sets-all}
 
--- ---- a call by its own numbers: its kind, its address and its value
-abbrev asked-for : Asked → ℕ → ℕ → ℕ → ℕ → Playing → Playing
-asked-for variants.WriteRegister kind address value i s = register_played s address value
-asked-for variants.WritePcmRam kind address value i s = byte_played s address value
-asked-for variants.Look kind address value i s =
-    shown_by s i (cond (eqb kind read_register_kind) (read_register_called s.chip 0 address) (answered s.chip (peek_register_answer s.chip 0 address)))
-asked-for variants.Clock kind address value i s = clock_played s address
-asked-for variants.SetVersion kind address value i s = version_played s (version_of address)
-asked-for variants.Nothing kind address value i s = s
+-- ---- a call by what it asks for, its address and its value
+abbrev asked-for : Asked → ℕ → ℕ → ℕ → Playing → Playing
+asked-for variants.WriteRegister address value i s = register_played s address value
+asked-for variants.WritePcmRam address value i s = byte_played s address value
+asked-for variants.Read address value i s = shown_by s i (read_register_called s.chip 0 address)
+asked-for variants.Peek address value i s = shown_by s i (answered s.chip (peek_register_answer s.chip 0 address))
+asked-for variants.Clock address value i s = clock_played s address
+asked-for variants.SetVersion address value i s = version_played s (version_of address)
+asked-for variants.Nothing address value i s = s
 
-played-for : (kinds addresses : List ℕ) (t : Asked) (i : ℕ) (s : Playing) → call_played kinds addresses t i s ≡ asked-for t (get_or kinds i 0) (get_or addresses i 0) (get_or s.values i 0) i s
+played-for : (kinds addresses : List ℕ) (t : Asked) (i : ℕ) (s : Playing) → call_played kinds addresses t i s ≡ asked-for t (get_or addresses i 0) (get_or s.values i 0) i s
 played-for kinds addresses variants.WriteRegister i s = refl
 played-for kinds addresses variants.WritePcmRam i s = refl
-played-for kinds addresses variants.Look i s = refl
+played-for kinds addresses variants.Read i s = refl
+played-for kinds addresses variants.Peek i s = refl
 played-for kinds addresses variants.Clock i s = refl
 played-for kinds addresses variants.SetVersion i s = refl
 played-for kinds addresses variants.Nothing i s = refl
@@ -98,21 +99,22 @@ module _ (s : Playing) (i : ℕ) (inside : i < length s.values) where
   look-back : (y : ℕ) → sets s.values i (set (part s.values i 1) 0 y) ≡ set s.values i y
   look-back y = ap (λ (l : List ℕ). sets s.values i (set l 0 y)) (part-one s.values i inside)
 
-  call_back : (t : Asked) (kind address value : ℕ) → stems_per_frame * f + stems_per_frame * clocked_as t address ≤ length s.stems → stems_per_frame * f + stems_per_frame * clocked_as t address ≤ length s.others
-      → back_into s i (clocked_as t address) (asked-for t kind address value 0 (parts s i (clocked_as t address))) ≡ asked-for t kind address value i s
-  call_back variants.WriteRegister kind address value h k = quiet (register_played s address value)
-  call_back variants.WritePcmRam kind address value h k = quiet (byte_played s address value)
-  call_back variants.Look kind address value h k =
-      let d = asked-for variants.Look kind address value i s in
-      let answer = (cond (eqb kind read_register_kind) (read_register_called s.chip 0 address) (answered s.chip (peek_register_answer s.chip 0 address))).answer in
-      λ j. record { chip = d.chip; ram = d.ram; queues = d.queues; values = look-back (byte_answered answer) j; stems = s.stems; others = s.others; frames = frames-back j }
-  call_back variants.Clock kind address value h k =
+  shown-back : (u : Called) → back_into s i 0 (shown_by (parts s i 0) 0 u) ≡ shown_by s i u
+  shown-back u = λ j. record { chip = u.chip; ram = s.ram; queues = s.queues; values = look-back (byte_answered u.answer) j; stems = s.stems; others = s.others; frames = frames-back j }
+
+  call_back : (t : Asked) (address value : ℕ) → stems_per_frame * f + stems_per_frame * clocked_as t address ≤ length s.stems → stems_per_frame * f + stems_per_frame * clocked_as t address ≤ length s.others
+      → back_into s i (clocked_as t address) (asked-for t address value 0 (parts s i (clocked_as t address))) ≡ asked-for t address value i s
+  call_back variants.WriteRegister address value h k = quiet (register_played s address value)
+  call_back variants.WritePcmRam address value h k = quiet (byte_played s address value)
+  call_back variants.Read address value h k = shown-back (read_register_called s.chip 0 address)
+  call_back variants.Peek address value h k = shown-back (answered s.chip (peek_register_answer s.chip 0 address))
+  call_back variants.Clock address value h k =
       let d = clock_played s address in
       let a = stems-back address 0 s.stems h in
       let b = stems-back address 1 s.others k in
       λ j. record { chip = d.chip; ram = d.ram; queues = d.queues; values = values-back j; stems = a j; others = b j; frames = f + address }
-  call_back variants.SetVersion kind address value h k = quiet (version_played s (version_of address))
-  call_back variants.Nothing kind address value h k = quiet s
+  call_back variants.SetVersion address value h k = quiet (version_played s (version_of address))
+  call_back variants.Nothing address value h k = quiet s
 
   pub slice-played : (kinds addresses : List ℕ) → stems_per_frame * s.frames + stems_per_frame * clocked_by kinds addresses i ≤ length s.stems → stems_per_frame * s.frames + stems_per_frame * clocked_by kinds addresses i ≤ length s.others
       → back_into s i (clocked_by kinds addresses i) (calls_played (part kinds i 1) (part addresses i 1) 1 (parts s i (clocked_by kinds addresses i))) ≡ call_played kinds addresses (asked_of (get_or kinds i 0)) i s
@@ -123,5 +125,5 @@ module _ (s : Playing) (i : ℕ) (inside : i < length s.values) where
       let own = parts s i n in
       ap (back_into s i n)
       (ap (λ (u : ℕ). call_played (part kinds i 1) (part addresses i 1) (asked_of u) 0 own) (one_at kinds i)
-      ∙ played-for (part kinds i 1) (part addresses i 1) t 0 own ∙ (λ j. asked-for t (one_at kinds i j) (one_at addresses i j) (one_at s.values i j) 0 own))
-      ∙ call_back t (get_or kinds i 0) (get_or addresses i 0) (get_or s.values i 0) h k ∙ sym (played-for kinds addresses t i s)
+      ∙ played-for (part kinds i 1) (part addresses i 1) t 0 own ∙ (λ j. asked-for t (one_at addresses i j) (one_at s.values i j) 0 own))
+      ∙ call_back t (get_or addresses i 0) (get_or s.values i 0) h k ∙ sym (played-for kinds addresses t i s)

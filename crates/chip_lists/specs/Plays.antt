@@ -1,6 +1,6 @@
 -- A list of calls, one after the other, each as the call that makes it alone. Registers are core 0's; the stems of the two cores stand in
 -- two buffers, 16 a frame.
-use Rattle.std.specs.Prelude.{Ok, cond, ◌&&◌, List, ℕ, zero, suc, ◌+◌, ◌*◌, eqb, ℤ, length, get_or, set}
+use Rattle.std.specs.Prelude.{Ok, ◌&&◌, List, ℕ, zero, suc, ◌+◌, ◌*◌, eqb, ℤ, length, get_or, set}
 use Rattle.std.proofs.lemmas.List.Edits.{sets}
 use Rattle.sizes.specs.Sizes.{stems_per_frame}
 use Rattle.cores.specs.Sizes.{chip_queues, chip_stems}
@@ -9,8 +9,8 @@ use Rattle.num.specs.Lists.{part}
 use Rattle.version.specs.Versions.{version_of}
 use Rattle.version.specs.declared.SguVersion.{SguVersion}
 use Rattle.frames.specs.declared.Asked.{Asked}
-use Rattle.frames.specs.declared.Asked.TheVariants.{WriteRegister, WritePcmRam, Look, Clock, SetVersion, Nothing}
-use Rattle.frames.specs.Listing.{read_register_kind, asked_of, frames_asked, call_count}
+use Rattle.frames.specs.declared.Asked.TheVariants.{WriteRegister, WritePcmRam, Read, Peek, Clock, SetVersion, Nothing}
+use Rattle.frames.specs.Listing.{asked_of, frames_asked, call_count}
 use Rattle.s3w2.specs.declared.Returned.TheVariants.{Done}
 use Rattle.s3w2.specs.declared.Called.{Called}
 use Rattle.s3w2.specs.declared.Chip.{Chip}
@@ -103,10 +103,8 @@ module _ (kinds addresses : List ℕ) where
   abbrev pub call_played : Asked → ℕ → Playing → Playing
   call_played WriteRegister i s = register_played s (get_or addresses i 0) (get_or s.values i 0)
   call_played WritePcmRam i s = byte_played s (get_or addresses i 0) (get_or s.values i 0)
-  call_played Look i s =
-      let read = read_register_called s.chip 0 (get_or addresses i 0) in
-      let peeked = answered s.chip (peek_register_answer s.chip 0 (get_or addresses i 0)) in
-      shown_by s i (cond (eqb (get_or kinds i 0) read_register_kind) read peeked)
+  call_played Read i s = shown_by s i (read_register_called s.chip 0 (get_or addresses i 0))
+  call_played Peek i s = shown_by s i (answered s.chip (peek_register_answer s.chip 0 (get_or addresses i 0)))
   call_played Clock i s = clock_played s (get_or addresses i 0)
   call_played SetVersion i s = version_played s (version_of (get_or addresses i 0))
   call_played Nothing i s = s

@@ -11,7 +11,7 @@ use Rattle.voices.specs.Core.{set_core_version}
 use Rattle.voices.specs.Writes.{after_ram_write}
 use Rattle.voices.specs.declared.Core.{Core}
 use Rattle.frames.specs.declared.Asked.{Asked}
-use Rattle.frames.specs.declared.Asked.TheVariants.{WriteRegister, WritePcmRam, Look, Clock, SetVersion, Nothing}
+use Rattle.frames.specs.declared.Asked.TheVariants.{WriteRegister, WritePcmRam, Read, Peek, Clock, SetVersion, Nothing}
 use Rattle.frames.specs.Listing.{Listed, call_as, frames_asked, call_count}
 use Rattle.frames.specs.Turning.{Turns, no_turn, frames}
 use Rattle.rest.specs.Rest.{rests}
@@ -60,7 +60,8 @@ is_alone second ram queues stems others = is_ram_length ram && (eqb queues chip_
 abbrev pub is_shared : Asked → Bool
 is_shared WriteRegister = false
 is_shared WritePcmRam = true
-is_shared Look = false
+is_shared Read = false
+is_shared Peek = false
 is_shared Clock = true
 is_shared SetVersion = true
 is_shared Nothing = false
@@ -68,7 +69,8 @@ is_shared Nothing = false
 abbrev pub is_clock : Asked → Bool
 is_clock WriteRegister = false
 is_clock WritePcmRam = false
-is_clock Look = false
+is_clock Read = false
+is_clock Peek = false
 is_clock Clock = true
 is_clock SetVersion = false
 is_clock Nothing = false
@@ -78,7 +80,8 @@ module _ (version : SguVersion) (ram : List ℕ) (queues : List ℤ) where
   abbrev pub second_called : Asked → ℕ → Core → Turns
   second_called WriteRegister address core = no_turn core
   second_called WritePcmRam address core = no_turn (cond (ltb address (length ram)) (after_ram_write core address) core)
-  second_called Look address core = no_turn core
+  second_called Read address core = no_turn core
+  second_called Peek address core = no_turn core
   second_called Clock n core = cond (ltb 1 (core_count version)) (frames version ram queues n core) (silent_turns n core)
   second_called SetVersion number core = no_turn (set_core_version core (version_of number))
   second_called Nothing address core = no_turn core

@@ -14,17 +14,17 @@ ghost use Rattle.chip_lists.specs.Plays.{playing, calls_played, all_played, play
 ghost use Rattle.chip_lists.specs.Second.{is_alone, is_shared, Lends, Leaves, Says, SecondLeaves};
 
 use cores::{CHIP_QUEUES, NUM_CORES};
-use frames::{CLOCK, SET_VERSION, WRITE_PCM_RAM, clocked_by};
+use frames::{Asked, clocked_by};
 use s3w2::{Called, Chip, Refusal, Returned};
 use sizes::{QUEUE_BUFFER, STEMS};
 use version::SguVersion;
 use voices::Core;
 
 // Whether a call is core 1's too: RAM writes, clocks and versions are.
-fn is_shared(kind: u8) -> bool
-    ensures { result ≡ is_shared (asked_of kind) }
+fn is_shared(call: Asked) -> bool
+    ensures { result ≡ is_shared call }
 {
-    (kind == WRITE_PCM_RAM) | (kind == CLOCK) | (kind == SET_VERSION)
+    matches!(call, Asked::WritePcmRam | Asked::Clock | Asked::SetVersion)
 }
 
 // Whether core 0's own list is all: core 1 is at rest, and what is lent is of the right lengths.
@@ -62,16 +62,18 @@ fn second_call(
         (lent_list core version ram.old queues.old values.old) others.old
         result ram.new queues.new values.new others.new }
 {
-    let kind = kinds[0];
-    if !is_shared(kind) {
+    let call = Asked::from(kinds[0]);
+    if !is_shared(call) {
         return core;
     }
-    if (kind == CLOCK) & (version.core_count() < NUM_CORES) {
+    if (call == Asked::Clock) & (version.core_count() < NUM_CORES) {
         stream::clear(others);
         return core;
     }
-    let played = frames::play(core, version, kinds, addresses, values, ram, queues, others);
-    played.core
+    match frames::play(core, version, kinds, addresses, values, ram, queues, others) {
+        Some(played) => played.core,
+        None => core,
+    }
 }
 
 // The first refusal of a list: 14 where a stem buffer has not 16 stems for each frame that it clocks.
@@ -115,7 +117,7 @@ fn play_one(
     let version = chip.version;
     let first = chip.cores[0];
     let second = chip.cores[1];
-    let played = frames::play(
+    let Some(played) = frames::play(
         first,
         version,
         kinds,
@@ -124,7 +126,9 @@ fn play_one(
         &mut *ram,
         &mut queues[..QUEUE_BUFFER],
         stems,
-    );
+    ) else {
+        return chip;
+    };
     let next = played.core;
     let under = played.version;
     let other = second_call(
@@ -159,7 +163,7 @@ fn play_each(
         (playing chip ram.old queues.old values.old stems.old others.old))
         result ram.new queues.new values.new stems.new others.new }
 {
-    let count = num::least(kinds.len(), num::least(addresses.len(), values.len()));
+    let count = kinds.len().min(addresses.len().min(values.len()));
     let mut chip = chip;
     let mut at = 0;
     for i in 0..count {
@@ -199,13 +203,12 @@ fn play_first(
     let version = chip.version;
     let first = chip.cores[0];
     let own = &mut queues[..QUEUE_BUFFER];
-    let played = frames::play(
+    let Some(played) = frames::play(
         first, version, kinds, addresses, values, &mut *ram, own, stems,
-    );
-    if !played.made {
+    ) else {
         let refusal = refusal_without_stems(chip, ram.len(), queues.len());
         return chip.answers(Err(refusal));
-    }
+    };
     stream::clear(others);
     let next = played.core;
     let under = played.version;
@@ -223,8 +226,9 @@ fn play_first(
 // A list of calls, one after the other: as many as there are kinds, addresses and values. A call's kind is one of
 // `frames`' numbers; its value is what it writes, or what it has read; a clock's address is its number of frames, a
 // version's its number. Registers are core 0's; `stems` are core 0's, `others` core 1's.
-// Kept as it is: three slices, for a run of RAM writes hands its addresses on as one slice, which would first be copied out of a
-// slice of structs, and there is no heap.
+// Kept as it is: of a list only the values change, and the shared slices say so by their type, where a slice of structs would need
+// clauses that kinds and addresses stay; and a run of RAM writes hands its addresses on as one slice. So too for what is lent
+// beside the list: a struct of it would need a clause for what a call leaves as it is.
 pub fn play(
     chip: Chip,
     kinds: &[u8],

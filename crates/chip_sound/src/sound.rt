@@ -1,26 +1,13 @@
 // One voice's tick, and frames of stems.
-ghost use Rattle.std.specs.Prelude.{◌≡◌, ◌<◌, length};
-ghost use Rattle.cores.specs.Sizes.{num_cores};
-ghost use Rattle.s3w2.specs.Answers.{answered};
-ghost use Rattle.s3w2.specs.Chips.{with_core_at};
+ghost use Rattle.std.specs.Prelude.{◌≡◌, length};
 ghost use Rattle.chip_sound.specs.Sound.{generate_sample_called, clock_called, clock_stems};
 
 use crate::both::{pair, run_core, second_sounds};
 use crate::ended::{ended_since, flags};
 use crate::mixing::{CHUNK, room};
 use cores::CHIP_STEMS;
-use s3w2::{Answer, Called, Chip, Returned};
+use s3w2::{Called, Chip, Returned};
 use sizes::{LAST_CHANNEL, QUEUE_BUFFER, STEMS};
-use voices::Core;
-
-// The chip with another core 0 or 1.
-fn with_core(mut chip: Chip, k: usize, core: Core, answer: Answer) -> Called
-    requires { k < num_cores }
-    ensures { result ≡ answered (with_core_at chip k core) answer }
-{
-    chip.cores[k] = core;
-    Called { chip, answer }
-}
 
 // A tick of one voice, and whether it turned the voice off; a channel above 7, and a core that the version lacks, give 0
 // and no.
@@ -54,15 +41,12 @@ pub fn generate_sample(chip: Chip, ram: &[u8], queues: &mut [i16], core: usize, 
     let d = next.channels[ch];
     let is = d.pcm;
     let ended = endings::turned_off(was.active, is.active);
-    with_core(
-        chip,
-        core,
-        next,
-        Ok(Returned::Sample {
-            value: turned.sample,
-            ended,
-        }),
-    )
+    let mut after = chip;
+    after.cores[core] = next;
+    after.answers(Ok(Returned::Sample {
+        value: turned.sample,
+        ended,
+    }))
 }
 
 // Stems: 32 a frame, core 0's and then core 1's, channel 0 left, channel 0 right, channel 1 left and so on. The answer is the
@@ -85,7 +69,7 @@ pub fn clock(chip: Chip, ram: &[u8], queues: &mut [i16], frames: usize, stems: &
     let mut second = [0i16; STEMS * CHUNK];
     let mut done = 0;
     while done < frames {
-        let count = num::least(frames - done, CHUNK);
+        let count = (frames - done).min(CHUNK);
         let end = STEMS * count;
         let more = room(sounds, end);
         one = run_core(one, version, ram, &mut *queues, 0, &mut first[..end]);

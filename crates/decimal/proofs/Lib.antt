@@ -1,3 +1,4 @@
 pub mod Writing
 pub mod Reading
 pub mod RoundTrip
+pub mod Loops

@@ -121,8 +121,5 @@ pub negative_fits : (n next : ℕ) → (n ≡ 0 → ⊥) → n ≤ 2 ^ 63 → ne
 negative_fits zero next h k = absurd (h refl)
 negative_fits (suc n) next h k = rw (lt-ltb n (2 ^ 63) (omega arith)) (ap (λ (m : ℕ). Some (negsuc m, next)) (omega arith))
 
-pub positive-over : (n next : ℕ) → 2 ^ 63 ≤ n → positive (Some (n, next)) ≡ None
-positive-over n next h = rw (le-ltb n (2 ^ 63) h)
-
 pub positive-fits : (n next : ℕ) → n < 2 ^ 63 → positive (Some (n, next)) ≡ Some (pos n, next)
 positive-fits n next h = rw (lt-ltb n (2 ^ 63) h)

@@ -1,6 +1,5 @@
 -- Numbers written in decimal.
-use Rattle.std.specs.Prelude.{◌≡◌, cond, List, [], ◌∷◌, ◌++◌, ℕ, zero, suc, ◌+◌, ◌/◌, ◌%◌, min, ltb, ℤ, pos, negsuc, length}
-use Rattle.std.proofs.lemmas.List.Edits.{sets}
+use Rattle.std.specs.Prelude.{cond, List, [], ◌∷◌, ◌++◌, ℕ, zero, suc, ◌+◌, ◌/◌, ◌%◌, ltb, ℤ, pos, negsuc}
 
 -- the digits of n, the most significant first, in at most as many turns as the first argument says
 unfoldable pub digits_in : ℕ → ℕ → List ℕ
@@ -15,10 +14,6 @@ decimal n = digits_in (suc n) n
 unfoldable pub render : ℤ → List ℕ
 render (pos n) = decimal n
 render (negsuc n) = 45 ∷ decimal (suc n)
-
--- `after` is the buffer `before` with the text from `at` on, as far as there is room; `r` is the place behind it, at most the buffer's end
-abbrev pub Put : List ℕ → List ℕ → ℕ → List ℕ → ℕ → Type 0
-Put before after at text r = (r ≡ min (at + length text) (length before)) × (after ≡ sets before at text)
 
 -- the texts of a list's elements, one behind the other
 abbrev pub each : {A : Type 0} → (A → List ℕ) → List A → List ℕ

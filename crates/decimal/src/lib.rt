@@ -1,45 +1,34 @@
 // Decimal text: plain decimal without leading zeros, a minus sign only before a negative number.
 #![tactic(auto)]
 
-ghost use Rattle.std.specs.Prelude.{◌≡◌, [], ◌∷◌, length};
-ghost use Rattle.decimal.specs.Written.{Put, decimal, render};
+ghost use Rattle.std.specs.Prelude.{◌≡◌, [], ◌∷◌, ◌++◌, length};
+ghost use Rattle.output.specs.Output.{Puts};
+ghost use Rattle.decimal.specs.Written.{decimal, render};
 ghost use Rattle.decimal.specs.Read.{digit_at, spelled_at, natural_at, number_at, negative, positive};
 
+use output::Output;
+
 // What reading a numeral finds: its value and the place behind it.
+// Kept as it is: readers take a text and a place in it, since a place past the text's end is one too, from which no slice can be cut.
 pub type Numeral<T> = Option<(T, usize)>;
 
-// Puts a byte into out at `at`, if there is room, and answers the place behind it, at most out's end.
-pub fn put_byte(out: &mut [u8], at: usize, byte: u8) -> usize
-    ensures { Put out.old out.new at (byte ∷ []) result }
+// Puts n's numeral.
+pub fn put_natural(out: &mut Output<'_>, n: u64)
+    ensures { Puts out.old out.new (decimal n) }
 {
-    if at < out.len() {
-        out[at] = byte;
-        at + 1
-    } else {
-        out.len()
+    if 10 <= n {
+        put_natural(&mut *out, n / 10);
     }
+    out.put_byte(48 + ((n % 10) as u8));
 }
 
-// Puts a text into out from `at` on, as far as there is room, and answers the place behind it, at most out's end.
-pub fn put_text(out: &mut [u8], at: usize, text: &[u8]) -> usize
-    ensures { Put out.old out.new at text.now result }
+// Puts a word, n's numeral and byte 10.
+pub fn put_line(out: &mut Output<'_>, word: &[u8], n: u64)
+    ensures { Puts out.old out.new (word.now ++ (decimal n ++ (10 ∷ []))) }
 {
-    let start = num::least(at, out.len());
-    let count = num::least(text.len(), out.len() - start);
-    out[start..start + count].copy_from_slice(&text[..count]);
-    start + count
-}
-
-// Puts n's numeral into out from `at` on, as far as there is room, and answers the place behind it, at most out's end.
-pub fn put_natural(out: &mut [u8], at: usize, n: u64) -> usize
-    ensures { Put out.old out.new at (decimal n) result }
-{
-    let last = 48 + ((n % 10) as u8);
-    if n < 10 {
-        return put_byte(out, at, last);
-    }
-    let end = put_natural(out, at, n / 10);
-    put_byte(out, end, last)
+    out.put_bytes(word);
+    put_natural(&mut *out, n);
+    out.put_byte(10);
 }
 
 // How many bytes n's numeral has.
@@ -56,15 +45,14 @@ pub fn natural_width(n: u64) -> usize
     width
 }
 
-// Puts a number's numeral into out from `at` on, as far as there is room, and answers the place behind it, at most out's end.
-pub fn put_number(out: &mut [u8], at: usize, value: i64) -> usize
-    ensures { Put out.old out.new at (render value) result }
+// Puts a number's numeral.
+pub fn put_number(out: &mut Output<'_>, value: i64)
+    ensures { Puts out.old out.new (render value) }
 {
     if value < 0 {
-        let end = put_byte(out, at, 45);
-        return put_natural(out, end, value.unsigned_abs());
+        out.put_byte(45);
     }
-    put_natural(out, at, value.unsigned_abs())
+    put_natural(out, value.unsigned_abs());
 }
 
 // How many bytes a number's numeral has.

@@ -30,6 +30,7 @@ pub fn ended(was: [bool; NUM_CHANNELS], is: [bool; NUM_CHANNELS]) -> u8
 {
     let mut set = 0u16;
     let mut bit = 1u16;
+    // Kept as it is: over the two arrays zipped the body is as long, and what the loop keeps has to speak of the iterator.
     for ch in 0usize..8 {
         set += bit_where_off(was[ch], is[ch], bit);
         bit *= 2;

@@ -21,7 +21,7 @@ use Rattle.voice.specs.declared.Channel.{Channel}
 use Rattle.frames.specs.Kept.{EachByte}
 use Rattle.frames.specs.declared.Asked.{Asked}
 use Rattle.frames.specs.declared.Asked.TheVariants as asks
-use Rattle.frames.specs.Listing.{read_register_kind, write_pcm_ram_kind, asked_of, Listed, clock_turns, call_as, clocked_as, clocked_by}
+use Rattle.frames.specs.Listing.{write_pcm_ram_kind, asked_of, Listed, clock_turns, call_as, clocked_as, clocked_by}
 use Rattle.frames.proofs.Playing.{turns-none}
 use Rattle.frames.proofs.Turns.{Ready}
 
@@ -29,7 +29,8 @@ use Rattle.frames.proofs.Turns.{Ready}
 abbrev pub is_store : Asked → Bool
 is_store asks.WriteRegister = false
 is_store asks.WritePcmRam = true
-is_store asks.Look = false
+is_store asks.Read = false
+is_store asks.Peek = false
 is_store asks.Clock = false
 is_store asks.SetVersion = false
 is_store asks.Nothing = false
@@ -38,18 +39,18 @@ pub store-kind : (kind : ℕ) → is_store (asked_of kind) ≡ eqb kind write_pc
 unfolding asked_of
 store-kind kind = by (eqb kind 0) refl
   where
-    others : (t u v w : Bool) → is_store (cond t asks.Look (cond u asks.Look (cond v asks.Clock (cond w asks.SetVersion asks.Nothing)))) ≡ false
+    others : (t u v w : Bool) → is_store (cond t asks.Read (cond u asks.Peek (cond v asks.Clock (cond w asks.SetVersion asks.Nothing)))) ≡ false
     others true u v w = refl
     others false true v w = refl
     others false false true w = refl
     others false false false true = refl
     others false false false false = refl
 
-    second : (t : Bool) → eqb kind 1 ≡ t → is_store (cond t asks.WritePcmRam (cond (eqb kind 2) asks.Look (cond (eqb kind 3) asks.Look (cond (eqb kind 4) asks.Clock (cond (eqb kind 5) asks.SetVersion asks.Nothing))))) ≡ eqb kind 1
+    second : (t : Bool) → eqb kind 1 ≡ t → is_store (cond t asks.WritePcmRam (cond (eqb kind 2) asks.Read (cond (eqb kind 3) asks.Peek (cond (eqb kind 4) asks.Clock (cond (eqb kind 5) asks.SetVersion asks.Nothing))))) ≡ eqb kind 1
     second true e = sym e
     second false e = others (eqb kind 2) (eqb kind 3) (eqb kind 4) (eqb kind 5) ∙ sym e
 
-    by : (t : Bool) → eqb kind 0 ≡ t → is_store (cond t asks.WriteRegister (cond (eqb kind 1) asks.WritePcmRam (cond (eqb kind 2) asks.Look (cond (eqb kind 3) asks.Look (cond (eqb kind 4) asks.Clock (cond (eqb kind 5) asks.SetVersion asks.Nothing)))))) ≡ eqb kind 1
+    by : (t : Bool) → eqb kind 0 ≡ t → is_store (cond t asks.WriteRegister (cond (eqb kind 1) asks.WritePcmRam (cond (eqb kind 2) asks.Read (cond (eqb kind 3) asks.Peek (cond (eqb kind 4) asks.Clock (cond (eqb kind 5) asks.SetVersion asks.Nothing)))))) ≡ eqb kind 1
     by true e = sym (ne_eqb kind 1 (λ y. let z = eqb-true kind 0 e in omega (arith, y, z)))
     by false e = second (eqb kind 1) refl
 
@@ -152,22 +153,28 @@ module _ (kinds addresses : List ℕ) (first n i : ℕ) (now : Listed) where
           count = no-frame asks.WriteRegister e refl;
         }
 
-    look-ready : (t : Bool) → Ready now.version (length now.ram) (cond t (after_read_register now.core a) now.core)
-    look-ready t =
-        cond-by (Ready now.version (length now.ram)) t (after_read_register now.core a) now.core
-        (λ e. record { accepted = read-register-kept now.core now.version (length now.ram) r.accepted a; bytes = read-bytes now.core a r.bytes }) (λ e. r)
-
-    pub look-begins : asked_of (get_or kinds i 0) ≡ asks.Look → (x : Core) (byte : ℕ) → x ≡ cond (eqb (get_or kinds i 0) read_register_kind) (after_read_register now.core (get_or addresses i 0)) now.core
-        → byte ≡ peek_register now.version now.core (get_or addresses i 0)
+    pub read-begins : asked_of (get_or kinds i 0) ≡ asks.Read → (x : Core) (byte : ℕ) → x ≡ after_read_register now.core (get_or addresses i 0) → byte ≡ peek_register now.version now.core (get_or addresses i 0)
         → Begins (record { core = x; version = now.version; ram = now.ram; queues = now.queues; values = set now.values i byte; stems = now.stems }) 0
-    look-begins e x byte ec eb = record {
+    read-begins e x byte ec eb = record {
       ram = refl;
       stems = refl;
-      ready = subst (Ready now.version (length now.ram)) (sym ec) (look-ready (eqb (get_or kinds i 0) read_register_kind));
+      ready = subst (Ready now.version (length now.ram)) (sym ec) (record { accepted = read-register-kept now.core now.version (length now.ram) r.accepted a; bytes = read-bytes now.core a r.bytes });
       entries = refl;
       long = length-set now.values i byte;
-      made = at_once asks.Look e _ (λ j. record { core = ec j; version = now.version; ram = now.ram; queues = now.queues; values = set now.values i (eb j); stems = now.stems });
-      count = no-frame asks.Look e refl;
+      made = at_once asks.Read e _ (λ j. record { core = ec j; version = now.version; ram = now.ram; queues = now.queues; values = set now.values i (eb j); stems = now.stems });
+      count = no-frame asks.Read e refl;
+    }
+
+    pub peek-begins : asked_of (get_or kinds i 0) ≡ asks.Peek → (byte : ℕ) → byte ≡ peek_register now.version now.core (get_or addresses i 0)
+        → Begins (record { core = now.core; version = now.version; ram = now.ram; queues = now.queues; values = set now.values i byte; stems = now.stems }) 0
+    peek-begins e byte eb = record {
+      ram = refl;
+      stems = refl;
+      ready = r;
+      entries = refl;
+      long = length-set now.values i byte;
+      made = at_once asks.Peek e _ (λ j. record { core = now.core; version = now.version; ram = now.ram; queues = now.queues; values = set now.values i (eb j); stems = now.stems });
+      count = no-frame asks.Peek e refl;
     }
 
     pub version-begins : asked_of (get_or kinds i 0) ≡ asks.SetVersion → (x : Core) (version : SguVersion) → version ≡ version_of (get_or addresses i 0) → x ≡ set_core_version now.core version
@@ -182,28 +189,15 @@ module _ (kinds addresses : List ℕ) (first n i : ℕ) (now : Listed) where
       count = no-frame asks.SetVersion e refl;
     }
 
--- ---- what a look makes of the core, and the byte that it shows
+-- ---- what a read makes of the core, and the byte that a look shows
 module _ (k : Core) (address ch : ℕ) (here : ch ≡ channel_of address) where
   pub look-byte : (version : SguVersion) (byte : ℕ) → byte ≡ seen_at version (channel_at k ch) k.wavetables address → byte ≡ peek_register version k address
   look-byte version byte e = e ∙ ap (λ (c : ℕ). seen_at version (channel_at k c) k.wavetables address) here ∙ seen-peeked k address version
 
-  read-when : (t : Bool) → cond t (cond (read_empties address) (emptied_at k address) k) k ≡ cond t (after_read_register k address) k
-  read-when t = ap (λ (x : Core). cond t x k) (read-as k address)
-
-  both_true : (t u : Bool) (x y : Core) → cond t u false ≡ true → x ≡ cond t (cond u x y) y
-  both_true true true x y e = refl
-  both_true true false x y e = never (sym e)
-  both_true false u x y e = never (sym e)
-
-  one-false : (t u : Bool) (x y : Core) → cond t u false ≡ false → y ≡ cond t (cond u x y) y
-  one-false true true x y e = never e
-  one-false true false x y e = refl
-  one-false false u x y e = refl
-
-  pub look-emptied : (t b : Bool) (c : Channel) (x : Core) → b ≡ cond t (read_empties address) false → b ≡ true → c ≡ after_read (channel_at k ch) 10 → x ≡ stored_channel k ch c true → x ≡ cond t (after_read_register k address) k
-  look-emptied t b c x e h d f =
+  pub read-emptied : (b : Bool) (c : Channel) (x : Core) → b ≡ read_empties address → b ≡ true → c ≡ after_read (channel_at k ch) 10 → x ≡ stored_channel k ch c true → x ≡ after_read_register k address
+  read-emptied b c x e h d f =
       f ∙ ap (λ (y : Channel). stored_channel k ch y true) d ∙ ap (λ (j : ℕ). stored_channel k j (after_read (channel_at k j) 10) true) here
-      ∙ both_true t (read_empties address) (emptied_at k address) k (sym e ∙ h) ∙ read-when t
+      ∙ ap (λ (t : Bool). cond t (emptied_at k address) k) (sym h ∙ e) ∙ read-as k address
 
-  pub look-kept : (t b : Bool) → b ≡ cond t (read_empties address) false → b ≡ false → k ≡ cond t (after_read_register k address) k
-  look-kept t b e h = one-false t (read_empties address) (emptied_at k address) k (sym e ∙ h) ∙ read-when t
+  pub read-kept : (b : Bool) → b ≡ read_empties address → b ≡ false → k ≡ after_read_register k address
+  read-kept b e h = ap (λ (t : Bool). cond t (emptied_at k address) k) (sym h ∙ e) ∙ read-as k address

@@ -200,7 +200,8 @@ module _ (kinds addresses : List ℕ) (from to i : ℕ) (low : from ≤ i) (high
       by : (t : Asked) → clocked_as t (get_or addresses i 0) ≤ get_or addresses i 0
       by variants.WriteRegister = omega arith
       by variants.WritePcmRam = omega arith
-      by variants.Look = omega arith
+      by variants.Read = omega arith
+      by variants.Peek = omega arith
       by variants.Clock = omega arith
       by variants.SetVersion = omega arith
       by variants.Nothing = omega arith

@@ -35,7 +35,8 @@ module _ (kinds addresses : List ℕ) where
   call-behind : (g : List ℤ) (t : Asked) (i : ℕ) (s : Listed) → call t i (behind_stems g s) ≡ behind_stems g (call t i s)
   call-behind g variants.WriteRegister i s = refl
   call-behind g variants.WritePcmRam i s = refl
-  call-behind g variants.Look i s = refl
+  call-behind g variants.Read i s = refl
+  call-behind g variants.Peek i s = refl
   call-behind g variants.Clock i s =
       let t = turned s.version s.ram s.queues 0 4 (8 * get_or addresses i 0) s.core in
       λ j. record { core = t.core; version = s.version; ram = s.ram; queues = s.queues; values = s.values; stems = append_assoc g s.stems t.stems j }
@@ -62,7 +63,8 @@ module _ (kinds addresses : List ℕ) where
   call_long : (t : Asked) (i : ℕ) (s : Listed) → length (call t i s).stems ≡ length s.stems + 16 * clocked_as t (get_or addresses i 0)
   call_long variants.WriteRegister i s = omega arith
   call_long variants.WritePcmRam i s = omega arith
-  call_long variants.Look i s = omega arith
+  call_long variants.Read i s = omega arith
+  call_long variants.Peek i s = omega arith
   call_long variants.Clock i s =
       let a = get_or addresses i 0 in
       let e = length-append s.stems (turned s.version s.ram s.queues 0 4 (8 * a) s.core).stems in
@@ -83,7 +85,8 @@ module _ (kinds addresses : List ℕ) where
   call-ram : (t : Asked) → is_store t ≡ false → (i : ℕ) (s : Listed) → (call t i s).ram ≡ s.ram
   call-ram variants.WriteRegister e i s = refl
   call-ram variants.WritePcmRam e i s = never e
-  call-ram variants.Look e i s = refl
+  call-ram variants.Read e i s = refl
+  call-ram variants.Peek e i s = refl
   call-ram variants.Clock e i s = refl
   call-ram variants.SetVersion e i s = refl
   call-ram variants.Nothing e i s = refl

@@ -1,15 +1,18 @@
 -- A list of calls on eight voices, one after the other: kinds, addresses and values, one of each a call.
-use Rattle.std.specs.Prelude.{◌≡◌, ℕ, zero, suc, ◌+◌, ◌*◌, ◌<◌, ◌≤◌, min, Bool, cond, ◌&&◌, List, [], ◌++◌, length, ℤ, ◌==◌, nat_lt, slice_index, slice_set}
+use Rattle.std.specs.Prelude.{◌≡◌, ℕ, zero, suc, ◌+◌, ◌*◌, ◌<◌, ◌≤◌, min, Bool, true, false, cond, ◌&&◌, Option, Some, None, List, [], ◌++◌, length, ℤ, ◌==◌, nat_lt, slice_index, slice_set}
+use Rattle.std.proofs.lemmas.List.Edits.{sets}
 use Rattle.sizes.specs.Sizes.{num_channels, stems_per_frame}
 use Rattle.version.specs.Versions.{version_of}
 use Rattle.version.specs.declared.SguVersion.{SguVersion}
-use Rattle.voices.specs.Accepted.{AcceptedCore}
+use Rattle.voices.specs.Accepted.{accepts_core, AcceptedCore}
 use Rattle.voices.specs.Core.{set_core_version}
 use Rattle.voices.specs.Reads.{peek_register, after_read_register}
 use Rattle.voices.specs.Writes.{write_register, write_register_queues, after_ram_write}
 use Rattle.voices.specs.declared.Core.{Core}
 use Rattle.frames.specs.declared.Asked.{Asked}
-use Rattle.frames.specs.declared.Asked.TheVariants.{WriteRegister, WritePcmRam, Look, Clock, SetVersion, Nothing}
+use Rattle.frames.specs.declared.Going.{Going}
+use Rattle.frames.specs.declared.Played.{Played}
+use Rattle.frames.specs.declared.Asked.TheVariants.{WriteRegister, WritePcmRam, Read, Peek, Clock, SetVersion, Nothing}
 use Rattle.frames.specs.Turning.{Turns, turned, may_run}
 
 -- ---- the kinds by number
@@ -31,13 +34,13 @@ clock_kind = 4
 abbrev pub set_version_kind : ℕ
 set_version_kind = 5
 
--- what a call asks for; a read and a peek look at a register
+-- what a call asks for
 unfoldable pub asked_of : ℕ → Asked
 asked_of kind =
     cond (kind == write_register_kind) WriteRegister
     (cond (kind == write_pcm_ram_kind) WritePcmRam
-    (cond (kind == read_register_kind) Look
-    (cond (kind == peek_register_kind) Look
+    (cond (kind == read_register_kind) Read
+    (cond (kind == peek_register_kind) Peek
     (cond (kind == clock_kind) Clock
     (cond (kind == set_version_kind) SetVersion Nothing)))))
 
@@ -45,7 +48,8 @@ asked_of kind =
 abbrev pub clocked_as : Asked → ℕ → ℕ
 clocked_as WriteRegister address = 0
 clocked_as WritePcmRam address = 0
-clocked_as Look address = 0
+clocked_as Read address = 0
+clocked_as Peek address = 0
 clocked_as Clock address = address
 clocked_as SetVersion address = 0
 clocked_as Nothing address = 0
@@ -61,6 +65,24 @@ pub record Listed : Type 0 where
 
 abbrev pub lent_list : Core → SguVersion → List ℕ → List ℤ → List ℕ → Listed
 lent_list core version ram queues values = record { core = core; version = version; ram = ram; queues = queues; values = values; stems = [] }
+
+-- what a function answers of them, after a list, and after some of its calls, with the place behind their stems
+abbrev pub after_list : Listed → Option Played
+after_list s = Some (record { core = s.core; version = s.version })
+
+abbrev pub after_calls : Listed → ℕ → Going
+after_calls s at = record { core = s.core; version = s.version; at = at }
+
+-- what is left of what was lent; the stems stand from `at` on in a buffer that was `before`
+pub record LeftBy (s : Listed) (at : ℕ) (before : List ℤ) (ram : List ℕ) (queues : List ℤ) (values : List ℕ) (stems : List ℤ) : Type 0 where
+  pub ram_is : ram ≡ s.ram
+  pub queues_is : queues ≡ s.queues
+  pub values_is : values ≡ s.values
+  pub stems_is : stems ≡ sets before at s.stems
+
+-- the voices are accepted, under the version that they then have
+abbrev pub AcceptedAfter : Listed → ℕ → Type 0
+AcceptedAfter s ram = accepts_core s.core s.version ram ≡ true
 
 -- after some turns
 abbrev pub with_turns : Listed → Turns → Listed
@@ -119,7 +141,8 @@ module _ (kinds addresses : List ℕ) where
     abbrev pub call_as : Asked → ℕ → Listed → Listed
     call_as WriteRegister i s = written s (slice_index addresses i) (slice_index s.values i)
     call_as WritePcmRam i s = byte_stored s (slice_index addresses i) (slice_index s.values i)
-    call_as Look i s = looked s i (slice_index addresses i) (slice_index kinds i == read_register_kind)
+    call_as Read i s = looked s i (slice_index addresses i) true
+    call_as Peek i s = looked s i (slice_index addresses i) false
     call_as Clock i s = clock_turns first n (num_channels * slice_index addresses i) s
     call_as SetVersion i s = under_version s (version_of (slice_index addresses i))
     call_as Nothing i s = s
@@ -159,3 +182,6 @@ may_play kinds addresses stems s =
 unfoldable pub played_of : List ℕ → List ℕ → ℕ → Listed → Listed
 played_of kinds addresses stems s =
     cond (may_play kinds addresses stems s) (listed kinds addresses 0 4 0 (call_count kinds addresses s.values) s) s
+
+unfoldable pub play_answer : List ℕ → List ℕ → ℕ → Listed → Option Played
+play_answer kinds addresses stems s = cond (may_play kinds addresses stems s) (after_list (played_of kinds addresses stems s)) None

@@ -1,15 +1,14 @@
 // What the calls of a list ask for.
-ghost use Rattle.std.specs.Prelude.{◌≡◌, ◌*◌, ◌^◌, ◌<◌, ◌≤◌, false, length, if◌then◌else◌, ◌==◌, nat_eq};
+ghost use Rattle.std.specs.Prelude.{◌≡◌, ◌*◌, ◌^◌, ◌<◌, ◌≤◌, length, ◌==◌};
 ghost use Rattle.sizes.specs.Sizes.{stems_per_frame};
-ghost use Rattle.voices.specs.Reads.{read_empties};
-ghost use Rattle.frames.specs.Listing.{read_register_kind, asked_of, frames_asked, call_count, clocked_as};
+ghost use Rattle.frames.specs.Listing.{asked_of, frames_asked, call_count, clocked_as};
 
 use crate::{
     Asked, CLOCK, PEEK_REGISTER, READ_REGISTER, SET_VERSION, WRITE_PCM_RAM, WRITE_REGISTER,
 };
 use sizes::STEMS;
 
-// A number that is none of the kinds asks for nothing; a read and a peek look at a register.
+// A number that is none of the kinds asks for nothing.
 impl From<u8> for Asked {
     ghost from_gives = { λ kind asked. asked ≡ asked_of kind };
 
@@ -18,19 +17,13 @@ impl From<u8> for Asked {
         match kind {
             WRITE_REGISTER => Asked::WriteRegister,
             WRITE_PCM_RAM => Asked::WritePcmRam,
-            READ_REGISTER | PEEK_REGISTER => Asked::Look,
+            READ_REGISTER => Asked::Read,
+            PEEK_REGISTER => Asked::Peek,
             CLOCK => Asked::Clock,
             SET_VERSION => Asked::SetVersion,
             _ => Asked::Nothing,
         }
     }
-}
-
-// Whether a look empties a cache: a read may, a peek does not.
-pub(crate) fn look_empties(kind: u8, address: u32) -> bool
-    ensures { result ≡ (if nat_eq kind read_register_kind then read_empties address else false) }
-{
-    kind == READ_REGISTER && voices::read_empties(address)
 }
 
 // As many calls as there are kinds, addresses and values.
@@ -41,6 +34,7 @@ pub(crate) fn call_count(kinds: &[u8], addresses: &[u32], values: &[u8]) -> usiz
 }
 
 // The frames that a call clocks.
+// Kept as it is: a public function may not ask more of callers, and an `Asked` in place of the number would.
 pub fn clocked_by(kind: u8, address: u32) -> usize
     ensures result { result ≡ clocked_as (asked_of kind) address }
     ensures upper_bound { result < 2 ^ 32 }
@@ -51,6 +45,7 @@ pub fn clocked_by(kind: u8, address: u32) -> usize
     }
 }
 
+// Kept as it is: two slices are read at one place, and `zip` would first cut both to `count`, which is no plainer.
 fn fills_by(kinds: &[u8], addresses: &[u32], count: usize, stems: usize) -> bool
     requires { (count ≤ length kinds.now) × (count ≤ length addresses.now) }
     ensures { result ≡ (stems == stems_per_frame * frames_asked kinds.now addresses.now 0 count) }

@@ -34,12 +34,11 @@ pub struct Turned {
     pub sample: i16,
 }
 
-// The core after a list of calls, its version, and whether they were made.
+// The core after a list of calls that were made, and its version.
 #[derive(Clone, Copy)]
 pub struct Played {
     pub core: Core,
     pub version: SguVersion,
-    pub made: bool,
 }
 
 // The core after some of them, its version, and the place behind the stems that were given.
@@ -55,7 +54,8 @@ pub(crate) struct Going {
 pub enum Asked {
     WriteRegister,
     WritePcmRam,
-    Look,
+    Read,
+    Peek,
     Clock,
     SetVersion,
     Nothing,

@@ -3,7 +3,7 @@ ghost use Rattle.std.specs.Prelude.{◌≡◌, ◌-◌, ◌*◌, ◌<◌, ◌≤
 ghost use Rattle.std.proofs.lemmas.List.Edits.{sets};
 ghost use Rattle.sizes.specs.Sizes.{queue_buffer, stems_per_frame};
 ghost use Rattle.voices.specs.Accepted.{accepts_core};
-ghost use Rattle.frames.specs.Listing.{lent_list, listed, frames_asked, EachAccepted, AllStore, call_count, write_pcm_ram_kind, may_play, played_of};
+ghost use Rattle.frames.specs.Listing.{lent_list, after_list, LeftBy, AcceptedAfter, listed, frames_asked, EachAccepted, AllStore, call_count, write_pcm_ram_kind, may_play, played_of, play_answer};
 ghost use Rattle.frames.specs.Stored.{calls_stored};
 
 use crate::asking::{call_count, fills};
@@ -13,6 +13,7 @@ use version::SguVersion;
 use voices::Core;
 
 // The first call from `from` on that writes to the RAM, or that does not; `count` where there is none.
+// Kept as it is: a place counted from the front is sought, and `position` over a part would count from `from`.
 fn run_end(kinds: &[u8], from: usize, count: usize, stores: bool) -> usize
     requires { (from ≤ count) × (count ≤ length kinds.now) }
     ensures bounds { (from ≤ result) × (result ≤ count) }
@@ -28,6 +29,7 @@ fn run_end(kinds: &[u8], from: usize, count: usize, stores: bool) -> usize
 }
 
 // The bytes that the calls from `from` to before `to` write to the RAM; an address past its end is none.
+// Kept as it is: two slices are read at one place, and `zip` would first cut both to these calls, which is no plainer.
 fn store_bytes(ram: &mut [u8], addresses: &[u32], values: &[u8], from: usize, to: usize)
     requires { (from ≤ to) × (to ≤ length addresses.now) × (to ≤ length values.now) }
     ensures { ram.new ≡ calls_stored addresses.now values.now from (to - from) ram.old }
@@ -40,7 +42,7 @@ fn store_bytes(ram: &mut [u8], addresses: &[u32], values: &[u8], from: usize, to
     }
 }
 
-// The first `count` calls.
+// The first `count` calls; they give `play`'s answer as it is, since a copy of the voices would take time.
 // Kept as it is: a turn of the loop goes a whole run on, whose end it finds, so there is no range or chain to go over.
 fn play_runs(
     core: Core,
@@ -52,34 +54,20 @@ fn play_runs(
     ram: &mut [u8],
     queues: &mut [i16],
     stems: &mut [i16],
-) -> Played
+) -> Option<Played>
     requires fact_1 { length queues.old ≡ queue_buffer }
     requires fact_2 { accepts_core core version (length ram.old) ≡ true }
     requires fact_3 { (count ≤ length kinds.now) × (count ≤ length addresses.now) × (count ≤ length values.old) }
     requires fact_4 { stems_per_frame * frames_asked kinds.now addresses.now 0 count ≤ length stems.old }
-    ensures core { result.core
-        ≡ (listed kinds.now addresses.now 0 4 0 count
-        (lent_list core version ram.old queues.old values.old)).core }
-    ensures version { result.version
-        ≡ (listed kinds.now addresses.now 0 4 0 count
-        (lent_list core version ram.old queues.old values.old)).version }
-    ensures ram { ram.new
-        ≡ (listed kinds.now addresses.now 0 4 0 count
-        (lent_list core version ram.old queues.old values.old)).ram }
-    ensures queues { queues.new
-        ≡ (listed kinds.now addresses.now 0 4 0 count
-        (lent_list core version ram.old queues.old values.old)).queues }
-    ensures values { values.new
-        ≡ (listed kinds.now addresses.now 0 4 0 count
-        (lent_list core version ram.old queues.old values.old)).values }
-    ensures stems { stems.new
-        ≡ sets stems.old 0
-        (listed kinds.now addresses.now 0 4 0 count
-        (lent_list core version ram.old queues.old values.old)).stems }
+    ensures result { result ≡ after_list (listed kinds.now addresses.now 0 4 0 count
+        (lent_list core version ram.old queues.old values.old)) }
+    ensures left { LeftBy (listed kinds.now addresses.now 0 4 0 count
+        (lent_list core version ram.old queues.old values.old))
+        0 stems.old ram.new queues.new values.new stems.new }
     ensures each_accepted { EachAccepted kinds.now addresses.now 0 4 0 count
         (lent_list core version ram.old queues.old values.old) }
-    ensures ram_value { accepts_core result.core result.version (length ram.old) ≡ true }
-    ensures made { result.made ≡ true }
+    ensures ram_value { AcceptedAfter (listed kinds.now addresses.now 0 4 0 count
+        (lent_list core version ram.old queues.old values.old)) (length ram.old) }
 {
     let mut core = core;
     let mut version = version;
@@ -114,15 +102,13 @@ fn play_runs(
         at = p.at;
         i = to;
     }
-    Played {
-        core,
-        version,
-        made: true,
-    }
+    Some(Played { core, version })
 }
 
 // A list of calls, one after the other: as many as there are kinds, addresses and values. A list that asks for something else
 // than it is lent is not played.
+// Kept as it is: each parameter is lent for reading or for writing by itself, so the types say that a list's kinds and addresses
+// stay; a struct of them would need a clause for that in each function.
 pub fn play(
     core: Core,
     version: SguVersion,
@@ -132,48 +118,29 @@ pub fn play(
     ram: &mut [u8],
     queues: &mut [i16],
     stems: &mut [i16],
-) -> Played
-    ensures core { result.core
-        ≡ (played_of kinds.now addresses.now (length stems.old)
-        (lent_list core version ram.old queues.old values.old)).core }
-    ensures version { result.version
-        ≡ (played_of kinds.now addresses.now (length stems.old)
-        (lent_list core version ram.old queues.old values.old)).version }
-    ensures ram { ram.new
-        ≡ (played_of kinds.now addresses.now (length stems.old)
-        (lent_list core version ram.old queues.old values.old)).ram }
-    ensures queues { queues.new
-        ≡ (played_of kinds.now addresses.now (length stems.old)
-        (lent_list core version ram.old queues.old values.old)).queues }
-    ensures values { values.new
-        ≡ (played_of kinds.now addresses.now (length stems.old)
-        (lent_list core version ram.old queues.old values.old)).values }
-    ensures stems { stems.new
-        ≡ sets stems.old 0
-        (played_of kinds.now addresses.now (length stems.old)
-        (lent_list core version ram.old queues.old values.old)).stems }
+) -> Option<Played>
+    ensures result { result ≡ play_answer kinds.now addresses.now (length stems.old)
+        (lent_list core version ram.old queues.old values.old) }
+    ensures left { LeftBy (played_of kinds.now addresses.now (length stems.old)
+        (lent_list core version ram.old queues.old values.old))
+        0 stems.old ram.new queues.new values.new stems.new }
     ensures each_accepted { may_play kinds.now addresses.now (length stems.old)
         (lent_list core version ram.old queues.old values.old) ≡ true
         → EachAccepted kinds.now addresses.now 0 4 0
         (call_count kinds.now addresses.now values.old)
         (lent_list core version ram.old queues.old values.old) }
     ensures ram_value { accepts_core core version (length ram.old) ≡ true
-        → accepts_core result.core result.version (length ram.old) ≡ true }
-    ensures made { result.made
-        ≡ may_play kinds.now addresses.now (length stems.old)
-        (lent_list core version ram.old queues.old values.old) }
+        → AcceptedAfter (played_of kinds.now addresses.now (length stems.old)
+        (lent_list core version ram.old queues.old values.old)) (length ram.old) }
 {
-    if may_run(core, version, &*ram, &*queues, 4) {
-        if fills(kinds, addresses, &*values, stems.len()) {
-            let count = call_count(kinds, addresses, &*values);
-            return play_runs(
-                core, version, count, kinds, addresses, values, ram, queues, stems,
-            );
-        }
+    if !may_run(core, version, &*ram, &*queues, 4) {
+        return None;
     }
-    Played {
-        core,
-        version,
-        made: false,
+    if !fills(kinds, addresses, &*values, stems.len()) {
+        return None;
     }
+    let count = call_count(kinds, addresses, &*values);
+    play_runs(
+        core, version, count, kinds, addresses, values, ram, queues, stems,
+    )
 }

@@ -5,9 +5,8 @@ ghost use Rattle.std.specs.Int.{w16};
 ghost use Rattle.sizes.specs.Sizes.{queue_buffer, stems_per_frame};
 ghost use Rattle.voices.specs.Accepted.{accepts_core, AcceptedCore};
 ghost use Rattle.frames.specs.Turning.{may_run, run_of};
-ghost use Rattle.frames.specs.Listing.{lent_list, clock_turns, listed, frames_asked, EachAccepted, AllStore};
+ghost use Rattle.frames.specs.Listing.{lent_list, after_calls, LeftBy, clock_turns, listed, frames_asked, EachAccepted, AllStore};
 
-use crate::asking::look_empties;
 use crate::{Asked, Going, Round};
 use sizes::{FIFO_CAPACITY, QUEUE_BUFFER};
 use ticks::Sides;
@@ -51,24 +50,12 @@ pub(crate) fn play_calls(
     requires fact_4 { (to ≤ length kinds.now) × (to ≤ length addresses.now) × (to ≤ length values.old)
         × (at + (2 * turns + stems_per_frame * frames_asked kinds.now addresses.now from (to - from)) ≤ length stems.old) }
     requires fact_5 { AllStore kinds.now addresses.now false from to }
-    ensures core { result.core
-        ≡ (listed kinds.now addresses.now first n from (to - from)
-        (clock_turns first n turns (lent_list core version ram.now queues.old values.old))).core }
-    ensures version { result.version
-        ≡ (listed kinds.now addresses.now first n from (to - from)
-        (clock_turns first n turns (lent_list core version ram.now queues.old values.old))).version }
-    ensures queues { queues.new
-        ≡ (listed kinds.now addresses.now first n from (to - from)
-        (clock_turns first n turns (lent_list core version ram.now queues.old values.old))).queues }
-    ensures values { values.new
-        ≡ (listed kinds.now addresses.now first n from (to - from)
-        (clock_turns first n turns (lent_list core version ram.now queues.old values.old))).values }
-    ensures stems { stems.new
-        ≡ sets stems.old at
-        (listed kinds.now addresses.now first n from (to - from)
-        (clock_turns first n turns (lent_list core version ram.now queues.old values.old))).stems }
-    ensures at { result.at
-        ≡ at + (2 * turns + stems_per_frame * frames_asked kinds.now addresses.now from (to - from)) }
+    ensures result { result ≡ after_calls (listed kinds.now addresses.now first n from (to - from)
+        (clock_turns first n turns (lent_list core version ram.now queues.old values.old)))
+        (at + (2 * turns + stems_per_frame * frames_asked kinds.now addresses.now from (to - from))) }
+    ensures left { LeftBy (listed kinds.now addresses.now first n from (to - from)
+        (clock_turns first n turns (lent_list core version ram.now queues.old values.old)))
+        at stems.old ram.now queues.new values.new stems.new }
     ensures accepted_core { AcceptedCore result.core result.version (length ram.now) }
     ensures each_accepted { EachAccepted kinds.now addresses.now first n from (to - from)
         (clock_turns first n turns (lent_list core version ram.now queues.old values.old)) }
@@ -129,9 +116,8 @@ pub(crate) fn play_calls(
             }
             turn = 0;
             stop = 0;
-            let kind = kinds[i];
             let address = addresses[i];
-            match Asked::from(kind) {
+            match Asked::from(kinds[i]) {
                 Asked::WritePcmRam => {}
                 Asked::WriteRegister => {
                     let value = values[i];
@@ -156,14 +142,18 @@ pub(crate) fn play_calls(
                         }
                     }
                 }
-                Asked::Look => {
+                Asked::Read => {
                     let ch = voices::channel_of(address);
                     let c = core.channels[ch];
                     values[i] = voices::seen(c, version, &core.wavetables, address);
-                    if look_empties(kind, address) {
+                    if voices::read_empties(address) {
                         core.channels[ch] = c.after_read(0x0A);
                         voices::clear_fragments(&mut core.fragments, ch);
                     }
+                }
+                Asked::Peek => {
+                    let c = core.channels[voices::channel_of(address)];
+                    values[i] = voices::seen(c, version, &core.wavetables, address);
                 }
                 Asked::Clock => stop = 8 * (address as usize),
                 Asked::SetVersion => {

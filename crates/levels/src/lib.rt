@@ -2,12 +2,12 @@
 #![tactic(auto)]
 
 ghost use Rattle.std.specs.Prelude.{◌≡◌};
-ghost use Rattle.levels.specs.Levels.{square_of, over_of, side_level, with_frames, voice_peak};
+ghost use Rattle.levels.specs.Levels.{square_of, over_of, with_frames, voice_peak};
 
 use sizes::{LAST_CHANNEL, STEMS};
 
 // A side that is not clamped: its largest size, the sum of the squares of its values, and how many of them 16 bits do not hold.
-#[derive(Clone, Copy)]
+#[derive(Clone, Copy, Default)]
 pub struct SideLevel {
     pub peak: u32,
     pub squares: u64,
@@ -15,17 +15,6 @@ pub struct SideLevel {
 }
 
 impl SideLevel {
-    // Of no frames.
-    pub fn silent() -> SideLevel
-        ensures { result ≡ side_level 0 0 0 }
-    {
-        SideLevel {
-            peak: 0,
-            squares: 0,
-            overs: 0,
-        }
-    }
-
     // With more frames. The sums wrap.
     pub fn with_frames(self, side: &[i32]) -> SideLevel
         ensures { result ≡ with_frames self side.now }
@@ -55,13 +44,7 @@ fn square(x: i32) -> u64
 fn over(x: i32) -> u64
     ensures { result ≡ over_of x }
 {
-    if x < -32768 {
-        return 1;
-    }
-    if 32767 < x {
-        return 1;
-    }
-    0
+    u64::from(i16::try_from(x).is_err())
 }
 
 // The largest of a number and the sizes of a channel's stems, of which each frame has 16; there is no channel above 7.
@@ -71,12 +54,10 @@ pub fn voice_peak(before: u32, stems: &[i16], channel: usize) -> u32
     if LAST_CHANNEL < channel {
         return before;
     }
-    let frames = stems.len() / STEMS;
     let mut largest = before;
-    for i in 0..frames {
-        let left = STEMS * i + 2 * channel;
-        largest = largest.max(stems[left].unsigned_abs() as u32);
-        largest = largest.max(stems[left + 1].unsigned_abs() as u32);
+    for frame in stems.chunks_exact(STEMS) {
+        largest = largest.max(frame[2 * channel].unsigned_abs() as u32);
+        largest = largest.max(frame[2 * channel + 1].unsigned_abs() as u32);
     }
     largest
 }

@@ -5,7 +5,7 @@ use mathlib.Core.List.{List, [], ◌∷◌}
 use Prim.Native.Nat.{ℕ}
 use lib.Dec.{leb}
 use lib.ListN.{length}
-use Rattle.line_fields.specs.Reading.{PartsTaken, got, wrong, ReadLine, line, malformed, parts_of, fields_of, part_number, fields_number, taken_refusal, line_refusal, Part, Fields}
+use Rattle.line_fields.specs.Reading.{PartsTaken, got, wrong, ReadLine, line, malformed, parts_of, fields_of, fields_number, taken_refusal, line_refusal, Fields}
 use Rattle.line_fields.specs.Text.{written_of, written_number, room_refusal, Written}
 use Rattle.std.specs.Prelude.{Ok, Err}
 use Rattle.line_fields.specs.declared.RoomError.TheVariants.{TextBuffer}
@@ -23,10 +23,6 @@ line-number (malformed ns field) = refl
 room-number : (b : Bool) (n : ℕ) → written_number (cond b (Ok n) (Err TextBuffer)) ≡ cond b [] (15 ∷ [])
 room-number true n = refl
 room-number false n = refl
-
--- ---- an answer with its number
-pub told_part : (r s : Part) → r ≡ s → (r ≡ s) × (part_number r ≡ part_number s)
-told_part r s e = (e, ap part_number e)
 
 module _ {A : Type 0} {left now : A} where
   pub told-parts : (r : Fields) (t : PartsTaken) → (r ≡ parts_of t) × (left ≡ now) → (r ≡ parts_of t) × ((left ≡ now) × (fields_number r ≡ taken_refusal t))

@@ -14,8 +14,11 @@ use mir.Syntax.{w16}
 use mir.Val.{SFits}
 use mir.ValLaws.{to_z-Fits}
 use borrow.Author.Tests.{eq-eqb, ne_eqb, lt-leb, lt-ltb, le-ltb, leb-true, leb-false}
-use Rattle.decimal.specs.Written.{decimal, render, Put}
-use Rattle.decimal.proofs.Writing.{put-append, width-most, sample-width}
+use Rattle.decimal.specs.Written.{decimal, render}
+use Rattle.output.specs.declared.Output.{Output}
+use Rattle.output.specs.Output.{Put, Puts}
+use Rattle.output.proofs.Writing.{puts-append}
+use Rattle.decimal.proofs.Writing.{width-most, sample-width}
 use Rattle.line_fields.specs.Table.{is_sample, sample_of_number}
 use Rattle.line_fields.specs.Text.{field_text, part_text, parts_text, line_text, written_of, put_of}
 use Rattle.std.specs.Prelude.{Ok, Err}
@@ -37,17 +40,17 @@ pub later-part : (k n : ℕ) → (k ≡ 0 → ⊥) → part_text k n ≡ 44 ∷ 
 unfolding part_text
 later-part k n e = rw (ne_eqb k 0 e)
 
-pub put-sample : (l m : List ℕ) (at r k n : ℕ) (z : ℤ) → is_sample k ≡ true → z ≡ sample_of_number n → Put l m at (render z) r → Put l m at (field_text k n) r
-put-sample l m at r k n z e f p = rw (text-sample k n e, ← f) p
+pub puts-sample : (s t : Output) (k n : ℕ) (z : ℤ) → is_sample k ≡ true → z ≡ sample_of_number n → Puts s t (render z) → Puts s t (field_text k n)
+puts-sample s t k n z e f p = rw (text-sample k n e, ← f) p
 
-pub put-plain : (l m : List ℕ) (at r k n : ℕ) → is_sample k ≡ false → Put l m at (decimal n) r → Put l m at (field_text k n) r
-put-plain l m at r k n e p = rw (text-natural k n e) p
+pub puts-plain : (s t : Output) (k n : ℕ) → is_sample k ≡ false → Puts s t (decimal n) → Puts s t (field_text k n)
+puts-plain s t k n e p = rw (text-natural k n e) p
 
-pub put_first : (l m : List ℕ) (at r k n : ℕ) → k ≡ 0 → Put l m at (field_text k n) r → Put l m at (part_text k n) r
-put_first l m at r k n e p = rw (first_part k n e) p
+pub puts_first : (s t : Output) (k n : ℕ) → k ≡ 0 → Puts s t (field_text k n) → Puts s t (part_text k n)
+puts_first s t k n e p = rw (first_part k n e) p
 
-pub put-later : (l m o : List ℕ) (at e r k n : ℕ) → (k ≡ 0 → ⊥) → Put l m at (44 ∷ []) e → Put m o e (field_text k n) r → Put l o at (part_text k n) r
-put-later l m o at e r k n h p q = rw (later-part k n h) (put-append l m o at e r (44 ∷ []) (field_text k n) p q)
+pub puts-later : (s t u : Output) (k n : ℕ) → (k ≡ 0 → ⊥) → Puts s t (44 ∷ []) → Puts t u (field_text k n) → Puts s u (part_text k n)
+puts-later s t u k n h p q = rw (later-part k n h) (puts-append s t u (44 ∷ []) (field_text k n) p q)
 
 -- ---- fields put one behind the other
 pub parts-append : (k : ℕ) (ns ms : List ℕ) → parts_text k (ns ++ ms) ≡ parts_text k ns ++ parts_text (k + length ns) ms
@@ -74,13 +77,13 @@ parts_next ns k h =
     none : (m k : ℕ) → m ≡ k → 0 + m ≡ k
     none m k e = omega arith
 
-pub put-parts : (l m n : List ℕ) (ns : List ℕ) (e r k : ℕ) → k < length ns → Put l m 0 (parts_text 0 (take k ns)) e → Put m n e (part_text k (get_or ns k 0)) r → Put l n 0 (parts_text 0 (take (k + 1) ns)) r
-put-parts l m n ns e r k h p q = rw (parts_next ns k h) (put-append l m n 0 e r (parts_text 0 (take k ns)) (part_text k (get_or ns k 0)) p q)
+pub puts-parts : (s t u : Output) (ns : List ℕ) (k : ℕ) → k < length ns → Puts s t (parts_text 0 (take k ns)) → Puts t u (part_text k (get_or ns k 0)) → Puts s u (parts_text 0 (take (k + 1) ns))
+puts-parts s t u ns k h p q = rw (parts_next ns k h) (puts-append s t u (parts_text 0 (take k ns)) (part_text k (get_or ns k 0)) p q)
 
-pub put-end : (l m n : List ℕ) (ns : List ℕ) (e r k : ℕ) → length ns ≤ k → Put l m 0 (parts_text 0 (take k ns)) e → Put m n e (10 ∷ []) r → Put l n 0 (line_text ns) r
+pub puts-end : (s t u : Output) (ns : List ℕ) (k : ℕ) → length ns ≤ k → Puts s t (parts_text 0 (take k ns)) → Puts t u (10 ∷ []) → Puts s u (line_text ns)
 unfolding line_text
-put-end l m n ns e r k h p q =
-    put-append l m n 0 e r (parts_text 0 ns) (10 ∷ []) (let z : Put l m 0 (parts_text 0 ns) e = rw (take_all k ns h) at p in z) q
+puts-end s t u ns k h p q =
+    puts-append s t u (parts_text 0 ns) (10 ∷ []) (let z : Puts s t (parts_text 0 ns) = rw (take_all k ns h) at p in z) q
 
 -- ---- widths
 pub width-sample : (w k n : ℕ) (z : ℤ) → is_sample k ≡ true → z ≡ sample_of_number n → w ≡ length (render z) → w ≡ length (field_text k n)

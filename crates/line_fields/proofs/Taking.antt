@@ -26,15 +26,6 @@ use Rattle.line_fields.specs.declared.FieldError.TheVariants.{Malformed}
 pub natural-in : (field most n next : ℕ) → n ≤ most → natural_of field most (Some (n, next)) ≡ Ok (n, next)
 natural-in field most n next h = rw (le-leb n most h)
 
-pub natural-over : (field most n next : ℕ) → most < n → natural_of field most (Some (n, next)) ≡ Err (Malformed field)
-natural-over field most n next h = rw (lt-leb n most h)
-
-pub sample-low : (field next : ℕ) (z : ℤ) → lt_z z (negsuc 32767) ≡ true → sample_of16 field (Some (z, next)) ≡ Err (Malformed field)
-sample-low field next z e = rw e
-
-pub sample-high : (field next : ℕ) (z : ℤ) → lt_z z (negsuc 32767) ≡ false → lt_z (pos 32767) z ≡ true → sample_of16 field (Some (z, next)) ≡ Err (Malformed field)
-sample-high field next z e f = rw (e, f)
-
 pub sample_in : (field next : ℕ) (z : ℤ) → lt_z z (negsuc 32767) ≡ false → lt_z (pos 32767) z ≡ false → sample_of16 field (Some (z, next)) ≡ Ok (of_z w16 z, next)
 sample_in field next z e f = rw (e, f)
 
@@ -60,12 +51,6 @@ closed-out text at h = closed-other text at (λ e. absurd (none (sym (get_or-eq_
   where
     none : ◌≡◌ {A = ℕ} 0 10 → ⊥
     none q = omega arith
-
-pub close-yes : (text : List ℕ) (count next : ℕ) → closed_at text next ≡ true → close_of text count (Ok next) ≡ Ok count
-close-yes text count next e = rw e
-
-pub close-no : (text : List ℕ) (count next : ℕ) → closed_at text next ≡ false → close_of text count (Ok next) ≡ Err (Malformed (count + 1))
-close-no text count next e = rw e
 
 -- ---- one field
 pub field-sample : (fifo : Bool) (k : ℕ) (text : List ℕ) (at : ℕ) → is_sample k ≡ true → field_at fifo k text at ≡ sample_of16 (k + 1) (number_at text at)

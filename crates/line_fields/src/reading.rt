@@ -32,15 +32,84 @@ fn sample_of(field: usize, taken: Numeral<i64>) -> Part
     Ok((num::bits16(sample) as u64, next))
 }
 
-// The numeral of field k.
-fn field_at(fifo: bool, k: usize, text: &[u8], at: usize) -> Part
-    requires { k < 2330 }
-    ensures { result ≡ field_at fifo k text.now at }
-{
-    if is_sample(k) {
-        return sample_of(k + 1, decimal::take_number(text, at));
+// A line's text, and whether the version has FIFO voices.
+#[derive(Clone, Copy)]
+struct Line<'a> {
+    fifo: bool,
+    text: &'a [u8],
+}
+
+impl Line<'_> {
+    // The numeral of field k.
+    fn field_at(self, k: usize, at: usize) -> Part
+        requires { k < 2330 }
+        ensures { result ≡ field_at self.entry.fifo k self.entry.text.now at }
+    {
+        if is_sample(k) {
+            return sample_of(k + 1, decimal::take_number(self.text, at));
+        }
+        natural_of(
+            k + 1,
+            most(self.fifo, k),
+            decimal::take_natural(self.text, at),
+        )
     }
-    natural_of(k + 1, most(fifo, k), decimal::take_natural(text, at))
+
+    // Field k with the comma before it.
+    fn part_at(self, k: usize, at: usize) -> Part
+        requires { k < 2330 }
+        ensures result { result ≡ part_at self.entry.fifo k self.entry.text.now at }
+        ensures number { part_number result ≡ part_number (part_at self.entry.fifo k self.entry.text.now at) }
+    {
+        if k == 0 {
+            return self.field_at(k, at);
+        }
+        if num::byte_at(self.text, at) == 44 {
+            return self.field_at(k, at + 1);
+        }
+        if ends_at(self.text, at) {
+            return Err(FieldError::Malformed(k + 1));
+        }
+        Err(FieldError::Malformed(k))
+    }
+
+    // The fields from field `from` to before field `to`.
+    fn take_parts(
+        self,
+        at: usize,
+        from: usize,
+        to: usize,
+        numbers: &mut [u64],
+    ) -> Result<usize, FieldError>
+        requires { to ≤ 2330 }
+        ensures result { result ≡ parts_of (parts_at self.entry.fifo self.entry.text.now (to - from) from at) }
+        ensures numbers { numbers.new
+            ≡ sets numbers.old from (numbers_in (parts_at self.entry.fifo self.entry.text.now (to - from) from at)) }
+        ensures number { fields_number result
+            ≡ taken_refusal (parts_at self.entry.fifo self.entry.text.now (to - from) from at) }
+    {
+        let mut end = at;
+        for k in from..to {
+            let (number, next) = self.part_at(k, end)?;
+            put_number(numbers, k, number);
+            end = next;
+        }
+        Ok(end)
+    }
+
+    // The queue's count and samples, and the line's end.
+    fn read_queue(self, at: usize, numbers: &mut [u64]) -> Result<usize, FieldError>
+        ensures result { result
+            ≡ queue_fields self.entry.text.now (queue_part_at self.entry.fifo self.entry.text.now at) }
+        ensures numbers { numbers.new
+            ≡ sets numbers.old 281 (numbers_in (queue_part_at self.entry.fifo self.entry.text.now at)) }
+    {
+        let (count, next) = self.part_at(281, at)?;
+        put_number(numbers, 281, count);
+        let to = 282 + (count as usize);
+        let samples = self.take_parts(next, 282, to, numbers);
+        close(self.text, samples, to)
+    }
 }
 
 // Whether a line or the text ends at a place.
@@ -51,48 +120,6 @@ pub fn ends_at(text: &[u8], at: usize) -> bool
         return text[at] == 10;
     }
     true
-}
-
-// Field k with the comma before it.
-fn part_at(fifo: bool, k: usize, text: &[u8], at: usize) -> Part
-    requires { k < 2330 }
-    ensures result { result ≡ part_at fifo k text.now at }
-    ensures number { part_number result ≡ part_number (part_at fifo k text.now at) }
-{
-    if k == 0 {
-        return field_at(fifo, k, text, at);
-    }
-    if num::byte_at(text, at) == 44 {
-        return field_at(fifo, k, text, at + 1);
-    }
-    if ends_at(text, at) {
-        return Err(FieldError::Malformed(k + 1));
-    }
-    Err(FieldError::Malformed(k))
-}
-
-// The fields from field `from` to before field `to`.
-fn take_parts(
-    fifo: bool,
-    text: &[u8],
-    at: usize,
-    from: usize,
-    to: usize,
-    numbers: &mut [u64],
-) -> Result<usize, FieldError>
-    requires { to ≤ 2330 }
-    ensures result { result ≡ parts_of (parts_at fifo text.now (to - from) from at) }
-    ensures numbers { numbers.new
-        ≡ sets numbers.old from (numbers_in (parts_at fifo text.now (to - from) from at)) }
-    ensures number { fields_number result ≡ taken_refusal (parts_at fifo text.now (to - from) from at) }
-{
-    let mut end = at;
-    for k in from..to {
-        let (number, next) = part_at(fifo, k, text, end)?;
-        put_number(numbers, k, number);
-        end = next;
-    }
-    Ok(end)
 }
 
 // Whether nothing but one byte 10 stands from a place on.
@@ -119,24 +146,13 @@ fn close(text: &[u8], taken: Result<usize, FieldError>, count: usize) -> Result<
     Err(FieldError::Malformed(count + 1))
 }
 
-// The queue's count and samples, and the line's end.
-fn read_queue(fifo: bool, text: &[u8], at: usize, numbers: &mut [u64]) -> Result<usize, FieldError>
-    ensures result { result ≡ queue_fields text.now (queue_part_at fifo text.now at) }
-    ensures numbers { numbers.new ≡ sets numbers.old 281 (numbers_in (queue_part_at fifo text.now at)) }
-{
-    let (count, next) = part_at(fifo, 281, text, at)?;
-    put_number(numbers, 281, count);
-    let to = 282 + (count as usize);
-    let samples = take_parts(fifo, text, next, 282, to, numbers);
-    close(text, samples, to)
-}
-
 // Reads a voice line: its numbers, as far as they are in order, are put into a buffer as far as there is room.
 pub fn read_line(fifo: bool, text: &[u8], numbers: &mut [u64]) -> Result<usize, FieldError>
     ensures result { result ≡ fields_of (read_line fifo text.now) }
     ensures numbers { numbers.new ≡ sets numbers.old 0 (line_numbers (read_line fifo text.now)) }
     ensures number { fields_number result ≡ line_refusal (read_line fifo text.now) }
 {
-    let next = take_parts(fifo, text, 0, 0, 281, numbers)?;
-    read_queue(fifo, text, next, numbers)
+    let line = Line { fifo, text };
+    let next = line.take_parts(0, 0, 281, numbers)?;
+    line.read_queue(next, numbers)
 }

@@ -1,30 +1,31 @@
 // A line written.
 ghost use Rattle.std.specs.Prelude.{◌≡◌, leb, length};
-ghost use Rattle.decimal.specs.Written.{Put};
+ghost use Rattle.output.specs.Output.{Put, Puts};
 ghost use Rattle.line_fields.specs.Text.{field_text, part_text, line_text, written_of, put_of, written_number, room_refusal};
 
 use crate::RoomError;
 use crate::table::{is_sample, sample};
+use output::Output;
 
-// Puts field k's numeral into out from `at` on, as far as there is room, and answers the place behind it, at most out's end.
-fn put_field(out: &mut [u8], at: usize, k: usize, number: u64) -> usize
-    ensures { Put out.old out.new at (field_text k number) result }
+// Puts field k's numeral.
+fn put_field(out: &mut Output<'_>, k: usize, number: u64)
+    ensures { Puts out.old out.new (field_text k number) }
 {
     if is_sample(k) {
-        return decimal::put_number(out, at, sample(number) as i64);
+        return decimal::put_number(out, sample(number) as i64);
     }
-    decimal::put_natural(out, at, number)
+    decimal::put_natural(out, number)
 }
 
 // The same with the comma before it.
-fn put_part(out: &mut [u8], at: usize, k: usize, number: u64) -> usize
-    ensures { Put out.old out.new at (part_text k number) result }
+fn put_part(out: &mut Output<'_>, k: usize, number: u64)
+    ensures { Puts out.old out.new (part_text k number) }
 {
     if k == 0 {
-        return put_field(out, at, k, number);
+        return put_field(out, k, number);
     }
-    let end = decimal::put_byte(out, at, 44);
-    put_field(out, end, k, number)
+    out.put_byte(44);
+    put_field(out, k, number)
 }
 
 fn field_width(k: usize, number: u64) -> usize
@@ -64,11 +65,12 @@ fn fits(numbers: &[u64], room: usize) -> bool
 pub fn put_line(numbers: &[u64], out: &mut [u8]) -> usize
     ensures { Put out.old out.new 0 (line_text numbers.now) result }
 {
-    let mut at = 0;
+    let mut line = Output { buffer: out, at: 0 };
     for (k, &number) in numbers.iter().enumerate() {
-        at = put_part(out, at, k, number);
+        put_part(&mut line, k, number);
     }
-    decimal::put_byte(out, at, 10)
+    line.put_byte(10);
+    line.at
 }
 
 // Writes the line of some numbers, if there is room for it.

@@ -2,5 +2,4 @@ pub mod Commas
 pub mod Texts
 pub mod Lengths
 pub mod Long
-pub mod Addresses
 pub mod Bytes

@@ -1,7 +1,6 @@
 // A line, without its closing byte 10, taken apart.
-ghost use Rattle.std.specs.Prelude.{◌≡◌};
-ghost use Rattle.log_lines.specs.Lines.{Within, one_at, two_at, is_mapped, addressed, as_write, written_ram, read_of, peek_of, clock_of};
-ghost use Rattle.log_lines.specs.Lines.{as_version, parsed_line, number_of};
+ghost use Rattle.std.specs.Prelude.{◌≡◌, ◌≢◌, ℕ};
+ghost use Rattle.log_lines.specs.Lines.{Within, one_at, two_at, addressed, clock_of, parsed_line, number_of};
 
 use crate::{Line, LineFault};
 
@@ -35,60 +34,14 @@ fn two_numbers(text: &[u8], at: usize) -> Option<(u32, u8)>
     Some((value as u32, byte as u8))
 }
 
-// Whether there is such an address: an `M` line (77) names a byte of the RAM, any other line a register.
-fn is_mapped(kind: u8, address: u32) -> bool
-    ensures { result ≡ is_mapped kind address }
+// A line of an address that is a register's, if there is such a register. An `M` line (77) names a byte of the RAM.
+fn mapped(address: u32, line: Line) -> Result<Line, LineFault>
+    ensures { (kind : ℕ) → kind ≢ 77 → result ≡ addressed kind address line }
 {
-    if kind == 77 {
-        return true;
-    }
-    (address as usize) < sizes::REGISTERS_END
-}
-
-// A line of this kind and address, where there is such an address.
-fn addressed(kind: u8, address: u32, line: Line) -> Result<Line, LineFault>
-    ensures { result ≡ addressed kind address line }
-{
-    if is_mapped(kind, address) {
+    if (address as usize) < sizes::REGISTERS_END {
         return Ok(line);
     }
     Err(LineFault::Unmapped)
-}
-
-fn write_of(two: Option<(u32, u8)>) -> Result<Line, LineFault>
-    ensures { result ≡ as_write two }
-{
-    match two {
-        Some((address, value)) => addressed(87, address, Line::Write { address, value }),
-        None => Err(LineFault::Malformed),
-    }
-}
-
-fn write_ram_of(two: Option<(u32, u8)>) -> Result<Line, LineFault>
-    ensures { result ≡ written_ram two }
-{
-    match two {
-        Some((address, value)) => addressed(77, address, Line::WriteRam { address, value }),
-        None => Err(LineFault::Malformed),
-    }
-}
-
-fn read_of(one: Option<u32>) -> Result<Line, LineFault>
-    ensures { result ≡ read_of one }
-{
-    match one {
-        Some(address) => addressed(82, address, Line::Read(address)),
-        None => Err(LineFault::Malformed),
-    }
-}
-
-fn peek_of(one: Option<u32>) -> Result<Line, LineFault>
-    ensures { result ≡ peek_of one }
-{
-    match one {
-        Some(address) => addressed(80, address, Line::Peek(address)),
-        None => Err(LineFault::Malformed),
-    }
 }
 
 fn clock_of(one: Option<u32>) -> Result<Line, LineFault>
@@ -101,15 +54,6 @@ fn clock_of(one: Option<u32>) -> Result<Line, LineFault>
             }
             Ok(Line::Clock(frames))
         }
-        None => Err(LineFault::Malformed),
-    }
-}
-
-fn version_of(one: Option<u32>) -> Result<Line, LineFault>
-    ensures { result ≡ as_version one }
-{
-    match one {
-        Some(version) => Ok(Line::Version(version)),
         None => Err(LineFault::Malformed),
     }
 }
@@ -135,14 +79,28 @@ pub fn parse(text: &[u8]) -> Result<Line, LineFault>
     if num::byte_at(text, 1) != 44 {
         return Err(LineFault::Malformed);
     }
-    let kind = num::byte_at(text, 0);
-    match kind {
-        87 => write_of(two_numbers(text, 2)),
-        77 => write_ram_of(two_numbers(text, 2)),
-        82 => read_of(one_number(text, 2, 0xFFFF_FFFF)),
-        80 => peek_of(one_number(text, 2, 0xFFFF_FFFF)),
+    match num::byte_at(text, 0) {
+        87 => {
+            let (address, value) = two_numbers(text, 2).ok_or(LineFault::Malformed)?;
+            mapped(address, Line::Write { address, value })
+        }
+        77 => {
+            let (address, value) = two_numbers(text, 2).ok_or(LineFault::Malformed)?;
+            Ok(Line::WriteRam { address, value })
+        }
+        82 => {
+            let address = one_number(text, 2, 0xFFFF_FFFF).ok_or(LineFault::Malformed)?;
+            mapped(address, Line::Read(address))
+        }
+        80 => {
+            let address = one_number(text, 2, 0xFFFF_FFFF).ok_or(LineFault::Malformed)?;
+            mapped(address, Line::Peek(address))
+        }
         67 => clock_of(one_number(text, 2, 1000)),
-        86 => version_of(one_number(text, 2, sizes::LAST_VERSION)),
+        86 => {
+            let version = one_number(text, 2, sizes::LAST_VERSION).ok_or(LineFault::Malformed)?;
+            Ok(Line::Version(version))
+        }
         _ => Err(LineFault::Malformed),
     }
 }

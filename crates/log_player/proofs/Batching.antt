@@ -13,8 +13,9 @@ use lib.Seq.{get_or-set_same, get_or-set_other, get_or-take, length-take-le}
 use borrow.Author.Tests.{eq-eqb, ne_eqb}
 use Rattle.num.specs.Lists.{part}
 use Rattle.num.proofs.Choice.{never}
-use Rattle.decimal.specs.Written.{Put}
-use Rattle.decimal.proofs.Writing.{put-append, put-none}
+use Rattle.output.specs.declared.Output.{Output}
+use Rattle.output.specs.Output.{Puts}
+use Rattle.output.proofs.Writing.{puts-append, puts-none}
 use Rattle.frames.specs.declared.Asked.TheVariants as asked
 use Rattle.frames.specs.Listing.{write_register_kind, write_pcm_ram_kind, set_version_kind, asked_of, clocked_as, clocked_by, frames_asked}
 use Rattle.frames.proofs.Counts.{zero-add, frames-more, frames-within, grown}
@@ -94,17 +95,17 @@ unfolding shown_line asked_of
 shown-none kind address value left right f g h =
     rw (ne_eqb kind 2 f, ne_eqb kind 3 g, ne_eqb kind 4 h) (go (eqb kind write_register_kind) (eqb kind write_pcm_ram_kind) (eqb kind set_version_kind))
   where
-    go : (a b e : Bool) → [] ≡ shown_as (cond a asked.WriteRegister (cond b asked.WritePcmRam (cond e asked.SetVersion asked.Nothing))) false address value left right
+    go : (a b e : Bool) → [] ≡ shown_as (cond a asked.WriteRegister (cond b asked.WritePcmRam (cond e asked.SetVersion asked.Nothing))) address value left right
     go true b e = refl
     go false true e = refl
     go false false true = refl
     go false false false = refl
 
 pub shows :
-    (kind address value : ℕ) (left right : List ℤ) (out now : List ℕ) (at end : ℕ) (text : List ℕ) → text ≡ shown_line kind address value left right → Put out now at text end → length text ≤ 17 + 16 * min (length left) (length right) →
-    Put out now at (shown_line kind address value left right) end × (length (shown_line kind address value left right) ≤ 17 + 16 * min (length left) (length right))
-shows kind address value left right out now at end text e t s =
-    (subst (λ (l : List ℕ). Put out now at l end) e t, subst (λ (l : List ℕ). length l ≤ 17 + 16 * min (length left) (length right)) e s)
+    (kind address value : ℕ) (left right : List ℤ) (out now : Output) (text : List ℕ) → text ≡ shown_line kind address value left right → Puts out now text → length text ≤ 17 + 16 * min (length left) (length right) →
+    Puts out now (shown_line kind address value left right) × (length (shown_line kind address value left right) ≤ 17 + 16 * min (length left) (length right))
+shows kind address value left right out now text e t s =
+    (subst (Puts out now) e t, subst (λ (l : List ℕ). length l ≤ 17 + 16 * min (length left) (length right)) e s)
 
 -- ---- only the first n calls are looked at
 pub record Same (n : ℕ) (kinds kinds' addresses addresses' values values' : List ℕ) : Type 0 where
@@ -200,7 +201,7 @@ module _ (input : List ℕ) (from place stop n budget : ℕ) (kinds addresses va
           let t = text ++ b.text in
           let at = spot b.after (number + n) place t in
           let m : suc (number + n) ≡ number + (n + 1) = omega arith in
-          run-next room input at (plays-line room input at (room-is room (length t) (number + n) (omega arith) (long text b.text r)) (ap is_line next))
+          run-next room input at (plays-line room input at (room-is 16384 room (length t) (number + n) (omega arith) (long text b.text r)) (ap is_line next))
           ∙ ap (λ (x : Result Line LineFault). run_from room input (spot (after_line b.after x) (suc (number + n)) (place + length (first_line rest) + 1) (t ++ printed b.after x))) l
           ∙ (λ i. run_from room input (spot (after_line b.after line) (m i) (there i) (append_assoc text b.text (printed b.after line) i)))
           ∙ ap (λ (j : ℕ). run_from room input (spot (lines_effect kinds addresses values j w).after (number + (n + 1)) (stop + 1) (text ++ (lines_effect kinds addresses values j w).text))) (sym (add-one n))
@@ -312,23 +313,23 @@ module _ (input : List ℕ) (from most budget : ℕ) (kinds addresses values : L
               ∙ ap₂ (λ (x y : ℕ). x + y) (sym (g.is ∙ frames-same kinds ks addresses ads values vs count same)) clocked
 
 -- ---- where `show` stands
-pub record Showing (kinds addresses values : List ℕ) (left right : List ℤ) (out : List ℕ) (at : ℕ) (mid : List ℕ) (end frame i : ℕ) : Type 0 where
+pub record Showing (kinds addresses values : List ℕ) (left right : List ℤ) (out mid : Output) (frame i : ℕ) : Type 0 where
   pub within : i ≤ length kinds
   pub is : frame ≡ frames_asked kinds addresses 0 i
-  pub put : Put out mid at (calls_shown kinds addresses values left right i) end
+  pub put : Puts out mid (calls_shown kinds addresses values left right i)
   pub short : Short kinds addresses values left right i
 
-module _ (kinds addresses values : List ℕ) (left right : List ℤ) (out : List ℕ) (at : ℕ) where
-  pub showing-none : (end : ℕ) → end ≡ min at (length out) → Showing kinds addresses values left right out at out end 0 0
+module _ (kinds addresses values : List ℕ) (left right : List ℤ) (out : Output) where
+  pub showing-none : out.at ≤ length out.buffer.now → Showing kinds addresses values left right out out 0 0
   unfolding frames_asked calls_shown most_printed
-  showing-none end e = record {
+  showing-none e = record {
     within = omega arith;
     is = refl;
-    put = put-none out at end e;
+    put = puts-none out e;
     short = λ j h. let z : j ≡ 0 = omega arith in subst (λ (k : ℕ). length (calls_shown kinds addresses values left right k) ≤ 17 * k + 16 * frames_asked kinds addresses 0 k) (sym z) (omega arith);
   }
 
-  module _ (mid now : List ℕ) (end e frame to i x : ℕ) (g : Showing kinds addresses values left right out at mid end frame i) where
+  module _ (mid now : Output) (frame to i x : ℕ) (g : Showing kinds addresses values left right out mid frame i) where
     pub showing-room : x ≡ clocked_as (asked_of (get_or kinds i 0)) (get_or addresses i 0) → i < length kinds → frame + x ≤ frames_asked kinds addresses 0 (length kinds)
     showing-room ex h =
         let f = frames-more kinds addresses 0 i in
@@ -337,15 +338,15 @@ module _ (kinds addresses values : List ℕ) (left right : List ℤ) (out : List
 
     pub showing-next :
         i < length kinds → x ≡ clocked_as (asked_of (get_or kinds i 0)) (get_or addresses i 0) → to ≡ frame + x → frame + x ≤ length left → frame + x ≤ length right →
-        Put mid now end (shown_line (get_or kinds i 0) (get_or addresses i 0) (get_or values i 0) (take (to - frame) (drop frame left)) (take (to - frame) (drop frame right))) e →
+        Puts mid now (shown_line (get_or kinds i 0) (get_or addresses i 0) (get_or values i 0) (take (to - frame) (drop frame left)) (take (to - frame) (drop frame right))) →
         length (shown_line (get_or kinds i 0) (get_or addresses i 0) (get_or values i 0) (take (to - frame) (drop frame left)) (take (to - frame) (drop frame right)))
         ≤ 17 + 16 * min (length (take (to - frame) (drop frame left))) (length (take (to - frame) (drop frame right))) →
-        Showing kinds addresses values left right out at now e to (i + 1)
+        Showing kinds addresses values left right out now to (i + 1)
     unfolding calls_shown most_printed
     showing-next h ex et rl rr t s = record {
       within = omega arith;
       is = et ∙ sym now-frames;
-      put = subst (λ (k : ℕ). Put out now at (calls_shown kinds addresses values left right k) e) (sym (add-one i)) (put-append out mid now at end e (calls_shown kinds addresses values left right i) (own (get_or kinds i 0) (get_or addresses i 0) (get_or values i 0)) g.put (subst (λ (l : List ℕ). Put mid now end l e) is-own t));
+      put = subst (λ (k : ℕ). Puts out now (calls_shown kinds addresses values left right k)) (sym (add-one i)) (puts-append out mid now (calls_shown kinds addresses values left right i) (own (get_or kinds i 0) (get_or addresses i 0) (get_or values i 0)) g.put (subst (Puts mid now) is-own t));
       short = λ j k. grown (λ (j : ℕ). length (calls_shown kinds addresses values left right j) ≤ 17 * j + 16 * frames_asked kinds addresses 0 j) 0 (i + 1) (λ j z q. g.short j (omega arith)) last j (omega arith) (omega arith);
     }
       where
@@ -375,25 +376,25 @@ module _ (kinds addresses values : List ℕ) (left right : List ℤ) (out : List
             (omega (arith, length-append (calls_shown kinds addresses values left right i) (own (get_or kinds i 0) (get_or addresses i 0) (get_or values i 0)), g.short i (omega arith), s, few, ap length is-own, now-frames, g.is))
 
 pub showing-all :
-    (kinds addresses values : List ℕ) (left right : List ℤ) (out : List ℕ) (at : ℕ) (mid : List ℕ) (end frame i : ℕ) → Showing kinds addresses values left right out at mid end frame i → length kinds ≤ i →
-    Put out mid at (calls_shown kinds addresses values left right (length kinds)) end × Short kinds addresses values left right (length kinds)
-showing-all kinds addresses values left right out at mid end frame i g h =
+    (kinds addresses values : List ℕ) (left right : List ℤ) (out mid : Output) (frame i : ℕ) → Showing kinds addresses values left right out mid frame i → length kinds ≤ i →
+    Puts out mid (calls_shown kinds addresses values left right (length kinds)) × Short kinds addresses values left right (length kinds)
+showing-all kinds addresses values left right out mid frame i g h =
     let e : i ≡ length kinds = omega (arith, h, g.within) in
-    (subst (λ (k : ℕ). Put out mid at (calls_shown kinds addresses values left right k) end) e g.put, subst (λ (k : ℕ). Short kinds addresses values left right k) e g.short)
+    (subst (λ (k : ℕ). Puts out mid (calls_shown kinds addresses values left right k)) e g.put, subst (λ (k : ℕ). Short kinds addresses values left right k) e g.short)
 
 -- ---- a batch
-pub batch-none : (input : List ℕ) (w : World) (number from : ℕ) (out : List ℕ) (at : ℕ) → refused_by w ≡ 0 → at + 16384 ≤ length out → NoLine input from → Batches input w number from w number from out out at at
-batch-none input w number from out at ok room none = record {
+pub batch-none : (input : List ℕ) (w : World) (number from : ℕ) (out : Output) → refused_by w ≡ 0 → out.at + 16384 ≤ length out.buffer.now → NoLine input from → Batches input w number from w number from out out
+batch-none input w number from out ok room none = record {
   text = [];
-  put = put-none out at at (omega arith);
+  put = puts-none out (omega arith);
   short = omega arith;
-  left = λ before e. ap (λ (t : List ℕ). run_from (length out) input (spot w number from t)) (sym (append-nil before));
+  left = λ before e. ap (λ (t : List ℕ). run_from (length out.buffer.now) input (spot w number from t)) (sym (append-nil before));
   on = omega arith;
   stops = λ e. (none, room);
   accepted = ok;
 }
 
-module _ (input : List ℕ) (w next : World) (number from behind n budget at end : ℕ) (out now kinds addresses values : List ℕ) where
+module _ (input : List ℕ) (w next : World) (number from behind n budget : ℕ) (out now : Output) (kinds addresses values : List ℕ) where
   abbrev K : List ℕ
   K = take n kinds
 
@@ -404,16 +405,16 @@ module _ (input : List ℕ) (w next : World) (number from behind n budget at end
   B = take n values
 
   pub batch-some :
-      Gathers input from behind n budget kinds addresses values → (n ≡ 0 → ⊥) → n ≤ length kinds → number + n ≤ 18446744073709551615 → at + 16384 ≤ length out → budget ≡ length out - at - 16384 →
-      PlaysLines (take n kinds) (take n addresses) (take n values) w next out now at end → Batches input w number from next (number + n) behind out now at end
+      Gathers input from behind n budget kinds addresses values → (n ≡ 0 → ⊥) → n ≤ length kinds → number + n ≤ 18446744073709551615 → out.at + 16384 ≤ length out.buffer.now → budget ≡ length out.buffer.now - out.at - 16384 →
+      PlaysLines (take n kinds) (take n addresses) (take n values) w next out now → Batches input w number from next (number + n) behind out now
   unfolding most_printed
   batch-some g some h few room e p = record {
     text = (lines_effect K A B (length K) w).text;
     put = p.put;
     short = omega (arith, p.short (length K) (omega arith), most, room, e);
     left = λ before q.
-        gs.left (length out) w number before few (λ j k. omega (arith, p.short j (omega (arith, k, long)), gs.within j k, room, e, q))
-        ∙ (λ i. run_from (length out) input (spot ((ap (λ (m : ℕ). (lines_effect K A B m w).after) (sym long) ∙ sym p.after) i) (number + n) behind (before ++ (lines_effect K A B (sym long i) w).text)));
+        gs.left (length out.buffer.now) w number before few (λ j k. omega (arith, p.short j (omega (arith, k, long)), gs.within j k, room, e, q))
+        ∙ (λ i. run_from (length out.buffer.now) input (spot ((ap (λ (m : ℕ). (lines_effect K A B m w).after) (sym long) ∙ sym p.after) i) (number + n) behind (before ++ (lines_effect K A B (sym long i) w).text)));
     on = omega arith;
     stops = λ z. absurd (some (omega arith));
     accepted = p.accepted;

@@ -21,7 +21,7 @@ use Rattle.sides.specs.Sides.{side_of, added_to, wrapping}
 use Rattle.sides.proofs.Added.{added-length}
 use Rattle.frames.specs.declared.Asked.{Asked}
 use Rattle.frames.specs.declared.Asked.TheVariants as asked
-use Rattle.frames.specs.Listing.{read_register_kind, clocked_as}
+use Rattle.frames.specs.Listing.{clocked_as}
 use Rattle.frames.specs.Turning.{frames}
 use Rattle.frames.proofs.Framing.{frames-long}
 use Rattle.s3w2.specs.declared.Returned.TheVariants.{Ended}
@@ -181,10 +181,12 @@ module _ (kinds addresses : List ℕ) where
   stems-put p n r true = refl
   stems-put p n r false = refl
 
-  -- a read's answer, or a peek's
-  abbrev pub looked_at : ℕ → Playing → Called
-  looked_at i p =
-      cond (eqb (get_or kinds i 0) read_register_kind) (read_register_called p.chip 0 (get_or addresses i 0)) (answered p.chip (peek_register_answer p.chip 0 (get_or addresses i 0)))
+  -- a read's answer, and a peek's
+  abbrev pub read_at : ℕ → Playing → Called
+  read_at i p = read_register_called p.chip 0 (get_or addresses i 0)
+
+  abbrev pub peeked_at : ℕ → Playing → Called
+  peeked_at i p = answered p.chip (peek_register_answer p.chip 0 (get_or addresses i 0))
 
   moves-still : (i : ℕ) (p q : Playing) → q.frames ≡ p.frames → q.values ≡ p.values → ((second : Bool) → buffer_of second q ≡ buffer_of second p) → Moves 0 i p q
   moves-still i p q f v s = record {
@@ -201,14 +203,10 @@ module _ (kinds addresses : List ℕ) where
   stays p q s o true = o
   stays p q s o false = s
 
-  pub moves : (t : Asked) (i : ℕ) (p : Playing) → Roomy (clocked_as t (get_or addresses i 0)) p → Moves (clocked_as t (get_or addresses i 0)) i p (call_played kinds addresses t i p)
-  moves asked.WriteRegister i p r = let q = call_played kinds addresses asked.WriteRegister i p in moves-still i p q refl refl (stays p q refl refl)
-  moves asked.WritePcmRam i p r = let q = call_played kinds addresses asked.WritePcmRam i p in moves-still i p q refl refl (stays p q refl refl)
-  moves asked.SetVersion i p r = let q = call_played kinds addresses asked.SetVersion i p in moves-still i p q refl refl (stays p q refl refl)
-  moves asked.Nothing i p r = moves-still i p p refl refl (λ b. refl)
-  moves asked.Look i p r =
-      let x = looked_at i p in
-      let s = stays p (call_played kinds addresses asked.Look i p) refl refl in
+  -- a byte shown in the place of a call's value
+  moves-shown : (i : ℕ) (p : Playing) (x : Called) → Moves 0 i p (shown_by p i x)
+  moves-shown i p x =
+      let s = stays p (shown_by p i x) refl refl in
       record {
         frames = omega arith;
         many = length-set p.values i (byte_answered x.answer);
@@ -217,6 +215,14 @@ module _ (kinds addresses : List ℕ) where
         below = λ b k h. ap (λ (l : List ℤ). get_or l k (pos 0)) (s b);
         above = λ b k h. ap (λ (l : List ℤ). get_or l k (pos 0)) (s b);
       }
+
+  pub moves : (t : Asked) (i : ℕ) (p : Playing) → Roomy (clocked_as t (get_or addresses i 0)) p → Moves (clocked_as t (get_or addresses i 0)) i p (call_played kinds addresses t i p)
+  moves asked.WriteRegister i p r = let q = call_played kinds addresses asked.WriteRegister i p in moves-still i p q refl refl (stays p q refl refl)
+  moves asked.WritePcmRam i p r = let q = call_played kinds addresses asked.WritePcmRam i p in moves-still i p q refl refl (stays p q refl refl)
+  moves asked.SetVersion i p r = let q = call_played kinds addresses asked.SetVersion i p in moves-still i p q refl refl (stays p q refl refl)
+  moves asked.Nothing i p r = moves-still i p p refl refl (λ b. refl)
+  moves asked.Read i p r = moves-shown i p (read_at i p)
+  moves asked.Peek i p r = moves-shown i p (peeked_at i p)
   moves asked.Clock i p r =
       let n = get_or addresses i 0 in
       let put = stems-put p n r in
@@ -237,7 +243,8 @@ module _ (kinds addresses : List ℕ) where
 
   -- the sides of its own frames, and the byte that it shows
   pub record Own (t : Asked) (i : ℕ) (p : Playing) (xl xr : List ℤ) (byte : ℕ) : Type 0 where
-    pub shows : t ≡ asked.Look → byte ≡ byte_answered (looked_at i p).answer
+    pub reads : t ≡ asked.Read → byte ≡ byte_answered (read_at i p).answer
+    pub peeks : t ≡ asked.Peek → byte ≡ byte_answered (peeked_at i p).answer
     pub lefts : t ≡ asked.Clock → xl ≡ left_side p.chip p.ram p.queues (silent (get_or addresses i 0)) (silent (get_or addresses i 0))
     pub rights : t ≡ asked.Clock → xr ≡ right_side p.chip p.ram p.queues (silent (get_or addresses i 0)) (silent (get_or addresses i 0))
 
@@ -245,19 +252,21 @@ module _ (kinds addresses : List ℕ) where
     abbrev a : ℕ
     a = get_or addresses i 0
 
-    abbrev heard : Asked → Bool → Effect
-    heard t is_read = record {
+    abbrev heard : Asked → Effect
+    heard t = record {
       after = world_of (call_played kinds addresses t i p) (peak_of l xl (clocked_as t a)) (peak_of r xr (clocked_as t a));
-      text = shown_as t is_read a byte xl xr;
+      text = shown_as t a byte xl xr;
     }
 
-    look-line : (is_read : Bool) (x : Called) → x ≡ cond is_read (read_register_called p.chip 0 a) (answered p.chip (peek_register_answer p.chip 0 a)) → byte ≡ byte_answered x.answer
-        → effect_of (world_of p l r) (Ok (cond is_read (Read a) (Peek a))) ≡ record { after = world_of (shown_by p i x) l r; text = read_back_line (cond is_read 82 80) a byte }
+    read-line : (x : Called) → x ≡ read_at i p → byte ≡ byte_answered x.answer → effect_of (world_of p l r) (Ok (Read a)) ≡ record { after = world_of (shown_by p i x) l r; text = read_back_line 82 a byte }
     unfolding effect_of
-    look-line true x e b =
+    read-line x e b =
         (λ j. record { after = world_of (shown_by p i (sym e j)) l r; text = read_back_line 82 a (byte_answered (sym e j).answer) })
         ∙ ap (λ (k : ℕ). record { after = world_of (shown_by p i x) l r; text = read_back_line 82 a k }) (sym b)
-    look-line false x e b =
+
+    peek-line : (x : Called) → x ≡ peeked_at i p → byte ≡ byte_answered x.answer → effect_of (world_of p l r) (Ok (Peek a)) ≡ record { after = world_of (shown_by p i x) l r; text = read_back_line 80 a byte }
+    unfolding effect_of
+    peek-line x e b =
         (λ j. record { after = world_of (shown_by p i (sym e j)) l r; text = read_back_line 80 a (byte_answered (sym e j).answer) })
         ∙ ap (λ (k : ℕ). record { after = world_of (shown_by p i x) l r; text = read_back_line 80 a k }) (sym b)
 
@@ -277,11 +286,12 @@ module _ (kinds addresses : List ℕ) where
           text = frame_lines (sym el j) (sym er j) (min (length (sym el j)) (length (sym er j)));
         })
 
-    pub one_line : (t : Asked) → Roomy (clocked_as t a) p → get_or p.values i 0 ≡ v → Own t i p xl xr byte → effect_of (world_of p l r) (line_as t (eqb (get_or kinds i 0) read_register_kind) a v) ≡ heard t (eqb (get_or kinds i 0) read_register_kind)
+    pub one_line : (t : Asked) → Roomy (clocked_as t a) p → get_or p.values i 0 ≡ v → Own t i p xl xr byte → effect_of (world_of p l r) (line_as t a v) ≡ heard t
     unfolding effect_of peak_of
     one_line asked.WriteRegister q e o = ap (λ (k : ℕ). effect_of (world_of p l r) (Ok (Write a k))) (sym e)
     one_line asked.WritePcmRam q e o = ap (λ (k : ℕ). effect_of (world_of p l r) (Ok (WriteRam a k))) (sym e)
-    one_line asked.Look q e o = look-line (eqb (get_or kinds i 0) read_register_kind) (looked_at i p) refl (o.shows refl)
+    one_line asked.Read q e o = read-line (read_at i p) refl (o.reads refl)
+    one_line asked.Peek q e o = peek-line (peeked_at i p) refl (o.peeks refl)
     one_line asked.Clock q e o = clock-line q (o.lefts refl) (o.rights refl)
     one_line asked.SetVersion q e o = refl
     one_line asked.Nothing q e o = refl

@@ -14,7 +14,8 @@ use Rattle.num.proofs.Choice.{together}
 use Rattle.sizes.specs.Sizes.{stems_per_frame}
 use Rattle.cores.specs.Sizes.{chip_queues}
 use Rattle.tone.specs.Pcm.{is_ram_length}
-use Rattle.decimal.specs.Written.{Put}
+use Rattle.output.specs.declared.Output.{Output}
+use Rattle.output.specs.Output.{Puts}
 use Rattle.num.specs.Lists.{part}
 use Rattle.sides.specs.Sides.{frames_in, added_to, wrapping}
 use Rattle.sides.proofs.Added.{added-length}
@@ -22,11 +23,12 @@ use Rattle.frames.specs.declared.Asked.{Asked}
 use Rattle.frames.specs.declared.Asked.TheVariants as asked
 use Rattle.frames.specs.Listing.{asked_of, clocked_as, frames_asked, call_count}
 use Rattle.frames.proofs.Counts.{zero-add, frames-within}
+use Rattle.s3w2.specs.declared.Called.{Called}
 use Rattle.s3w2.specs.declared.Returned.TheVariants.{Done}
 use Rattle.s3w2.specs.declared.Chip.{Chip}
 use Rattle.s3w2.specs.Answers.{Checked, done_unless, number_of, answered, byte_answered}
 use Rattle.s3w2.specs.Refusals.{accepts_chip, refusal}
-use Rattle.chip_lists.specs.Plays.{Playing, playing, call_played, calls_played, play_refusal, all_played, play_called, play_left}
+use Rattle.chip_lists.specs.Plays.{Playing, shown_by, playing, call_played, calls_played, play_refusal, all_played, play_called, play_left}
 use Rattle.s3w2.proofs.Refused.{nothing-amiss}
 use Rattle.log_lines.specs.declared.Line.{Line}
 use Rattle.log_lines.specs.declared.LineFault.{LineFault}
@@ -36,7 +38,7 @@ use Rattle.log_player.specs.Applied.{left_side, right_side, silent, Effect, effe
 use Rattle.log_player.specs.Runs.{refused_by}
 use Rattle.log_player.specs.Batches.{line_of, lines_effect, most_printed, shown_line, calls_shown, Short, Silent, PlaysLines}
 use Rattle.log_player.proofs.Places.{sets-at, zeros, part-long, part-at, Stands, side-stands, added-zeros}
-use Rattle.log_player.proofs.Hearing.{buffer_of, heard_side, heard-left, heard-right, heard-long, heard-at, Moves, Roomy, own-silent, stems_made, stems-made, stems-put, looked_at, moves, world_of, Own, one_line}
+use Rattle.log_player.proofs.Hearing.{buffer_of, heard_side, heard-left, heard-right, heard-long, heard-at, Moves, Roomy, own-silent, stems_made, stems-made, stems-put, read_at, peeked_at, moves, world_of, Own, one_line}
 
 -- the largest of a part, behind those before it
 peak-part : (before : ℕ) (side : List ℤ) (f c m : ℕ) → m ≤ c → peak_of (peak_of before side f) (part side f c) m ≡ peak_of before side (f + m)
@@ -153,11 +155,11 @@ module _ (kinds addresses values : List ℕ) (w : World) (stems others : List �
       ap (λ (j : ℕ). get_or (s j).values n 0) e ∙ values-stay (suc n) (count - suc n) (omega arith) n (omega arith)
 
   -- the byte that call n shows
-  shows-byte : (n : ℕ) → n < count → asks n ≡ asked.Look → get_or bytes n 0 ≡ byte_answered (looked_at kinds addresses n (s n)).answer
+  shows-byte : (n : ℕ) → n < count → (t : Asked) (x : Called) → call_played kinds addresses t n (s n) ≡ shown_by (s n) n x → asks n ≡ t → get_or bytes n 0 ≡ byte_answered x.answer
   unfolding calls_played
-  shows-byte n h e =
-      last-values n h ∙ ap (λ (t : Asked). get_or (call_played kinds addresses t n (s n)).values n 0) e
-      ∙ get_or-set_same (s n).values n (byte_answered (looked_at kinds addresses n (s n)).answer) 0 (omega (arith, h, lots, (before n (omega arith)).many))
+  shows-byte n h t x is e =
+      last-values n h ∙ ap (λ (t : Asked). get_or (call_played kinds addresses t n (s n)).values n 0) e ∙ ap (λ (p : Playing). get_or p.values n 0) is
+      ∙ get_or-set_same (s n).values n (byte_answered x.answer) 0 (omega (arith, h, lots, (before n (omega arith)).many))
 
   -- ---- the sides that the stems add up to: the left one (hand 0), the right one (hand 1)
   abbrev pub side : ℕ → List ℤ
@@ -222,7 +224,7 @@ module _ (kinds addresses values : List ℕ) (w : World) (stems others : List �
   R = side 1
 
   owns : (n : ℕ) → n < count → Own kinds addresses (asks n) n (s n) (part L (F n) (c n)) (part R (F n) (c n)) (get_or bytes n 0)
-  owns n h = record { shows = shows-byte n h; lefts = own-left n h; rights = own-right n h }
+  owns n h = record { reads = shows-byte n h asked.Read (read_at kinds addresses n (s n)) refl; peeks = shows-byte n h asked.Peek (peeked_at kinds addresses n (s n)) refl; lefts = own-left n h; rights = own-right n h }
 
   -- ---- THE LINES: after n of them
   abbrev heard_to : ℕ → Effect
@@ -388,17 +390,17 @@ module _ (kinds addresses values : List ℕ) (w : World) (stems others left righ
         ex ∙ ap (λ (n : ℕ). added_to wrapping n stems' others' hand 0 y) frames-in
         ∙ (λ i. added_to wrapping all (stems-are i) (others-are i) hand 0 (ey i))
 
-  module _ (chip : Chip) (ram : List ℕ) (queues : List ℤ) (values' : List ℕ) (l r : List ℤ) (pl pr : ℕ) (out now : List ℕ) (at end : ℕ) where
+  module _ (chip : Chip) (ram : List ℕ) (queues : List ℤ) (values' : List ℕ) (l r : List ℤ) (pl pr : ℕ) (out now : Output) where
     pub plays-lines :
         chip ≡ (play_called kinds addresses (playing w.player.chip w.ram w.queues values stems others)).chip → ram ≡ (play_left kinds addresses (playing w.player.chip w.ram w.queues values stems others)).ram →
         queues ≡ (play_left kinds addresses (playing w.player.chip w.ram w.queues values stems others)).queues → values' ≡ (play_left kinds addresses (playing w.player.chip w.ram w.queues values stems others)).values →
         l ≡ heard_on 0 → r ≡ heard_on 1 → pl ≡ peak_of w.player.left l (length l) → pr ≡ peak_of w.player.right r (length r) →
-        Put out now at (calls_shown kinds addresses values' l r (length kinds)) end → Short kinds addresses values' l r (length kinds) →
+        Puts out now (calls_shown kinds addresses values' l r (length kinds)) → Short kinds addresses values' l r (length kinds) →
         length ram ≡ length w.ram → length queues ≡ length w.queues → (accepts_chip w.player.chip (length w.ram) ≡ true → accepts_chip chip (length w.ram) ≡ true) →
-        PlaysLines kinds addresses values w (world (record { chip = chip; left = pl; right = pr }) ram queues) out now at end
+        PlaysLines kinds addresses values w (world (record { chip = chip; left = pl; right = pr }) ram queues) out now
     plays-lines ec em eq ev el er epl epr put short lm lq kept = record {
       after = (λ i. world (record { chip = (ec ∙ chip-is) i; left = (epl ∙ ap₂ (peak_of w.player.left) el long-left) i; right = (epr ∙ ap₂ (peak_of w.player.right) er long-right) i }) ((em ∙ ap (λ (p : Playing). p.ram) left_is) i) ((eq ∙ ap (λ (p : Playing). p.queues) left_is) i)) ∙ sym (ap (λ (x : Effect). x.after) (lines N (omega arith)));
-      put = subst (λ (t : List ℕ). Put out now at t end) (texts N (omega arith)) put;
+      put = subst (Puts out now) (texts N (omega arith)) put;
       short = λ j h. subst (λ (t : List ℕ). length t ≤ most_printed kinds addresses j) (texts j h) (short j h);
       accepted = of-accepted (world (record { chip = chip; left = pl; right = pr }) ram queues) (record { allowed = ap is_ram_length lm ∙ f.allowed; lent = lq ∙ f.lent; accepted = ap (accepts_chip chip) lm ∙ kept f.accepted });
     }

@@ -204,7 +204,7 @@ module _ (room : ℕ) (input : List ℕ) where
       forward = run-forward (spot w number from [])
 
       on : is_line r.next ≡ true → from < r.from
-      on = run_on (spot w number from []) (room-is room 0 number (omega arith) large)
+      on = run_on (spot w number from []) (room-is 16384 room 0 number (omega arith) large)
 
       last : length input ≤ from → Ends w number from r
       last h = ends-one w number from (go (is_line r.next) refl)

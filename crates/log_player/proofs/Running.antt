@@ -9,9 +9,10 @@ use lib.IntN.{ℤ}
 use lib.ListN.{length, drop, get_or, length-append}
 use lib.Seq.{sets}
 use Rattle.num.proofs.Choice.{never}
-use Rattle.decimal.specs.Written.{Put}
+use Rattle.output.specs.declared.Output.{Output}
+use Rattle.output.specs.Output.{Puts}
 use Rattle.log_lines.specs.Texts.{bad_line}
-use Rattle.decimal.proofs.Writing.{put-append, put-none}
+use Rattle.output.proofs.Writing.{puts-append, puts-none, put-long}
 use Rattle.s3w2.specs.declared.Refusal.{Refusal}
 use Rattle.s3w2.specs.declared.Refusal.TheVariants.{RamLength, QueueBuffer, NotAccepted, StemBuffer}
 use Rattle.s3w2.specs.Answers.{Checked, refusal_number, number_of}
@@ -30,40 +31,44 @@ use Rattle.log_player.proofs.Spots.{plays-none, plays-full, found-there, found-f
 use Rattle.log_player.proofs.Rooms.{room-is}
 
 -- a run that stands at a line: its text is put whole at the front of a buffer, and it ends where the run from the beginning ends
-pub record Running (input : List ℕ) (run : Run) (w : World) (line place : ℕ) (out mid : List ℕ) (end : ℕ) : Type 0 where
+pub record Running (input : List ℕ) (run : Run) (w : World) (line place : ℕ) (out mid : Output) : Type 0 where
   pub text : List ℕ
-  pub put : Put out mid 0 text end
-  pub whole : end ≡ length text
-  pub ahead : run_from (length out) input (spot w line place text) ≡ run
+  pub put : Puts out mid text
+  pub whole : mid.at ≡ length text
+  pub ahead : run_from (length out.buffer.now) input (spot w line place text) ≡ run
 
-pub running_none : (input : List ℕ) (w : World) (number place : ℕ) (out : List ℕ) → Running input (run_from (length out) input (spot w number place [])) w number place out out 0
-running_none input w number place out = record { text = []; put = put-none out 0 0 (omega arith); whole = refl; ahead = refl }
+pub running_none : (input : List ℕ) (w : World) (number place : ℕ) (out : Output) → out.at ≡ 0 → Running input (run_from (length out.buffer.now) input (spot w number place [])) w number place out out
+running_none input w number place out h = record { text = []; put = puts-none out (omega arith); whole = h; ahead = refl }
+
+-- the buffer keeps its length
+pub running-long : (input : List ℕ) (run : Run) (w : World) (line place : ℕ) (out mid : Output) → Running input run w line place out mid → length mid.buffer.now ≡ length out.buffer.now
+running-long input run w line place out mid r = put-long _ _ _ _ r.text r.put.put
 
 -- what `run` promises of its answer
 abbrev pub Promised : Run → List ℕ → List ℤ → List ℕ → List ℕ → Ran → Type 0
 Promised run ram queues out now r =
     (r ≡ ran_to run) × ((ram ≡ run.world.ram) × ((queues ≡ run.world.queues) × ((now ≡ sets out 0 run.text) × (length run.text ≤ length out))))
 
-module _ (input : List ℕ) (run : Run) (a : World) (line place end e : ℕ) (out mid now : List ℕ) (long : length mid ≡ length out) where
+module _ (input : List ℕ) (run : Run) (a : World) (line place : ℕ) (out mid now : Output) where
   -- some lines more
-  pub running-batch : (next : World) (number behind : ℕ) → Running input run a line place out mid end → Batches input a line place next number behind mid now end e → Running input run next number behind out now e
+  pub running-batch : (next : World) (number behind : ℕ) → Running input run a line place out mid → Batches input a line place next number behind mid now → Running input run next number behind out now
   running-batch next number behind r b = record {
     text = r.text ++ b.text;
-    put = put-append out mid now 0 end e r.text b.text r.put b.put;
-    whole = omega (arith, r.whole, b.put.0, b.short, length-append r.text b.text);
+    put = puts-append out mid now r.text b.text r.put b.put;
+    whole = omega (arith, r.whole, b.put.put.0, b.short, length-append r.text b.text);
     ahead =
-        sym (subst (λ (k : ℕ). run_from k input (spot a line place r.text) ≡ run_from k input (spot next number behind (r.text ++ b.text))) long (b.left r.text (sym r.whole)))
+        sym (subst (λ (k : ℕ). run_from k input (spot a line place r.text) ≡ run_from k input (spot next number behind (r.text ++ b.text))) (running-long input run a line place out mid r) (b.left r.text (sym r.whole)))
         ∙ r.ahead;
   }
 
 -- where no line is played, the run ends
-module _ (input : List ℕ) (run : Run) (p : Player) (ram : List ℕ) (queues : List ℤ) (line place end : ℕ) (out mid now : List ℕ) (long : length mid ≡ length out) where
+module _ (input : List ℕ) (run : Run) (p : Player) (ram : List ℕ) (queues : List ℤ) (line place : ℕ) (out mid now : Output) (front : out.at ≡ 0) where
   pub running-stop :
-      (answer : Ran) → end + 16384 ≤ length mid → line + 1 < 2 ^ 64 → NoLine input place → Running input run (world p ram queues) line place out mid end →
-      Stops (next_of (drop place input) place) p place line mid now end answer → Promised run ram queues out now answer
+      (answer : Ran) → mid.at + 16384 ≤ length mid.buffer.now → line + 1 < 2 ^ 64 → NoLine input place → Running input run (world p ram queues) line place out mid →
+      Stops (next_of (drop place input) place) p place line mid now answer → Promised run ram queues out.buffer.now now.buffer.now answer
   running-stop answer room more none r s =
-      subst (λ (v : Run). Promised v ram queues out now answer) (sym is)
-      (s.is ∙ ap (ran_as p next place line) whole, (refl, (refl, ((put-append out mid now 0 end answer.end r.text (stop_text line next) r.put s.put).1, omega (arith, whole, s.put.0, long)))))
+      subst (λ (v : Run). Promised v ram queues out.buffer.now now.buffer.now answer) (sym is)
+      (s.is ∙ ap (ran_as p next place line) whole, (refl, (refl, ((puts-append out mid now r.text (stop_text line next) r.put s.put).put.1 ∙ ap (λ (i : ℕ). sets out.buffer.now i (r.text ++ stop_text line next)) front, omega (arith, whole, s.put.put.0, long)))))
     where
       next : Next
       next = next_of (drop place input) place
@@ -71,52 +76,53 @@ module _ (input : List ℕ) (run : Run) (p : Player) (ram : List ℕ) (queues : 
       here : Spot
       here = spot (world p ram queues) line place r.text
 
-      whole : answer.end ≡ length (r.text ++ stop_text line next)
-      whole = omega (arith, r.whole, s.put.0, s.short, room, length-append r.text (stop_text line next))
+      long : length mid.buffer.now ≡ length out.buffer.now
+      long = running-long input run (world p ram queues) line place out mid r
 
-      roomy : has_room (length out) (length r.text) line ≡ true
-      roomy = room-is (length out) (length r.text) line (omega (arith, more)) (omega (arith, r.whole, room, long))
+      whole : now.at ≡ length (r.text ++ stop_text line next)
+      whole = omega (arith, r.whole, s.put.put.0, s.short, room, length-append r.text (stop_text line next))
+
+      roomy : has_room (length out.buffer.now) (length r.text) line ≡ true
+      roomy = room-is 16384 (length out.buffer.now) (length r.text) line (omega (arith, more)) (omega (arith, r.whole, room, long))
 
       is : run ≡ stops_at here next
       is =
           sym r.ahead
-          ∙ run-stops (length out) input here (plays-none (length out) input here none)
-          ∙ ap (stops_at here) (found-there (length out) input here roomy)
+          ∙ run-stops (length out.buffer.now) input here (plays-none (length out.buffer.now) input here none)
+          ∙ ap (stops_at here) (found-there (length out.buffer.now) input here roomy)
 
 -- ---- what `stop` promises
-module _ (p : Player) (from number at : ℕ) (out : List ℕ) (r : Ran) where
-  pub stops-none : (next : Next) → stop_text number next ≡ [] → at ≤ length out → r ≡ ran_as p next from number at → Stops next p from number out out at r
+module _ (p : Player) (from number : ℕ) (out : Output) (r : Ran) where
+  pub stops-none : (next : Next) → stop_text number next ≡ [] → out.at ≤ length out.buffer.now → r ≡ ran_as p next from number out.at → Stops next p from number out out r
   stops-none next n h e = record {
-    is = e ∙ ap (ran_as p next from number) (sym (ap (λ (x : Ran). x.end) e));
-    put = subst (λ (text : List ℕ). Put out out at text r.end) (sym n) (put-none out at r.end (omega (arith, h, ap (λ (x : Ran). x.end) e)));
+    is = e;
+    put = subst (Puts out out) (sym n) (puts-none out h);
     short = rw n (omega arith);
   }
 
-  pub stops-bad : (now : List ℕ) (why : LineFault) (end : ℕ) → r ≡ ran_as p (Err (Bad why)) from number end → Put out now at (bad_line number (log.number_of why)) end → length (bad_line number (log.number_of why)) ≤ 29 → Stops (Err (Bad why)) p from number out now at r
-  stops-bad now why end e t s =
-      let k = ap (λ (x : Ran). x.end) e in
-      record { is = e ∙ ap (ran_as p (Err (Bad why)) from number) (sym k); put = subst (Put out now at (bad_line number (log.number_of why))) (sym k) t; short = s }
+  pub stops-bad : (now : Output) (why : LineFault) → r ≡ ran_as p (Err (Bad why)) from number now.at → Puts out now (bad_line number (log.number_of why)) → length (bad_line number (log.number_of why)) ≤ 29 → Stops (Err (Bad why)) p from number out now r
+  stops-bad now why e t s = record { is = e; put = t; short = s }
 
-  pub stops_as : (now : List ℕ) (next other : Next) → next ≡ other → Stops other p from number out now at r → Stops next p from number out now at r
-  stops_as now next other e s = subst (λ (x : Next). Stops x p from number out now at r) (sym e) s
+  pub stops_as : (now : Output) (next other : Next) → next ≡ other → Stops other p from number out now r → Stops next p from number out now r
+  stops_as now next other e s = subst (λ (x : Next). Stops x p from number out now r) (sym e) s
 
 -- where there is no room, it ends too
-pub running-full : (input : List ℕ) (run : Run) (p : Player) (ram : List ℕ) (queues : List ℤ) (line place end : ℕ) (out mid : List ℕ) → has_room (length out) end line ≡ false → Running input run (world p ram queues) line place out mid end → Promised run ram queues out mid (ran_as p (Ok (Some place)) place line end)
-running-full input run p ram queues line place end out mid full r =
-    subst (λ (v : Run). Promised v ram queues out mid (ran_as p (Ok (Some place)) place line end)) (sym is)
-    (ap (ran_as p (Ok (Some place)) place line) whole, (refl, (refl, (rw (append-nil r.text) r.put.1, omega (arith, whole, r.put.0)))))
+pub running-full : (input : List ℕ) (run : Run) (p : Player) (ram : List ℕ) (queues : List ℤ) (line place : ℕ) (out mid : Output) → out.at ≡ 0 → has_room (length out.buffer.now) mid.at line ≡ false → Running input run (world p ram queues) line place out mid → Promised run ram queues out.buffer.now mid.buffer.now (ran_as p (Ok (Some place)) place line mid.at)
+running-full input run p ram queues line place out mid front full r =
+    subst (λ (v : Run). Promised v ram queues out.buffer.now mid.buffer.now (ran_as p (Ok (Some place)) place line mid.at)) (sym is)
+    (ap (ran_as p (Ok (Some place)) place line) whole, (refl, (refl, (rw (append-nil r.text) (r.put.put.1 ∙ ap (λ (i : ℕ). sets out.buffer.now i r.text) front), omega (arith, whole, r.put.put.0)))))
   where
     here : Spot
     here = spot (world p ram queues) line place r.text
 
-    whole : end ≡ length (r.text ++ [])
+    whole : mid.at ≡ length (r.text ++ [])
     whole = rw (append-nil r.text) r.whole
 
-    none : has_room (length out) (length r.text) line ≡ false
-    none = ap (λ (k : ℕ). has_room (length out) k line) (sym r.whole) ∙ full
+    none : has_room (length out.buffer.now) (length r.text) line ≡ false
+    none = ap (λ (k : ℕ). has_room (length out.buffer.now) k line) (sym r.whole) ∙ full
 
     is : run ≡ stops_at here (Ok (Some place))
-    is = sym r.ahead ∙ run-stops (length out) input here (plays-full (length out) input here none) ∙ ap (stops_at here) (found-full (length out) input here none)
+    is = sym r.ahead ∙ run-stops (length out.buffer.now) input here (plays-full (length out.buffer.now) input here none) ∙ ap (stops_at here) (found-full (length out.buffer.now) input here none)
 
 -- ---- `run`: refused, or not
 -- `r` is the refusal as the code found it

@@ -1,15 +1,15 @@
 -- Where a line ends, and what the next one is. Assumes nothing.
-use Rattle.std.specs.Prelude.{Ok, Some, None, Err}
-use mathlib.Core.Path.{◌≡◌, refl, ap}
-use mathlib.Core.Bool.{Bool, true, false}
+use Rattle.std.specs.Prelude.{Option, Ok, Some, None, Err, nat_lt, position}
+use Rattle.std.specs.List.{position_or_len}
+use Rattle.std.proofs.lemmas.List.Recursion.{is_position_or_len}
+use mathlib.Core.Path.{◌≡◌, refl, sym, ap, ◌∙◌}
+use mathlib.Core.Bool.{Bool, true, false, cond}
 use mathlib.Core.List.{List, [], ◌∷◌}
-use Prim.Native.Nat.{ℕ, ◌+◌, ◌-◌, ◌≤◌, ◌<◌, max}
-use native.Mathlib.Numerals.{add-one}
+use Prim.Native.Nat.{ℕ, ◌+◌, ◌-◌, ◌≤◌, ◌<◌}
 use native.Mathlib.Omega.{arith}
 use lib.Dec.{eqb}
-use lib.ListN.{length, take, drop, get_or, length-drop, drop_of_length-le}
-use lib.Seq.{drop-cons}
-use borrow.Author.Tests.{eq-eqb, ne_eqb, le-leb, lt-leb}
+use lib.ListN.{length, take, drop, length-drop, drop_of_length-le}
+use borrow.Author.Tests.{eq-eqb, ne_eqb, le-leb, lt-leb, ltb-false}
 use Rattle.log_lines.specs.declared.Line.{Line}
 use Rattle.log_lines.specs.declared.LineFault.{LineFault}
 use Rattle.log_lines.specs.declared.LineFault.TheVariants.{Malformed}
@@ -18,21 +18,21 @@ use Rattle.log_player.specs.declared.Stop.TheVariants.{Bad}
 use Rattle.log_player.specs.Steps.{first_line, next_of}
 
 -- ---- the first line, one byte at a time
-pub ends_at : (l : List ℕ) (i : ℕ) → i < length l → get_or l i 0 ≡ 10 → length (first_line (drop i l)) ≡ 0
+-- the place of the first byte 10, as a search finds it
+stop-place : (text : List ℕ) → length (first_line text) ≡ position_or_len (λ (c : ℕ). eqb c 10) text
 unfolding first_line
-ends_at l i h e = rw (drop-cons l i 0 h, eq-eqb (get_or l i 0) 10 e)
+stop-place text = is_position_or_len (λ (l : List ℕ). length (first_line l)) (λ (c : ℕ). eqb c 10) refl (λ c cs. go c cs (eqb c 10) refl) text
+  where
+    go : (c : ℕ) (cs : List ℕ) (b : Bool) → eqb c 10 ≡ b → length (first_line (c ∷ cs)) ≡ cond (eqb c 10) 0 (1 + length (first_line cs))
+    go c cs true e = rw e refl
+    go c cs false e = rw e (omega arith)
 
-pub goes-on : (l : List ℕ) (i : ℕ) → i < length l → (get_or l i 0 ≡ 10 → ⊥) → length (first_line (drop i l)) ≡ 1 + length (first_line (drop (i + 1) l))
-unfolding first_line
-goes-on l i h e = rw (add-one i) (rw (drop-cons l i 0 h, ne_eqb (get_or l i 0) 10 e) (omega arith))
-
-pub ends_last : (l : List ℕ) (i : ℕ) → length l ≤ i → length (first_line (drop i l)) ≡ 0
-unfolding first_line
-ends_last l i h = rw (drop_of_length-le l h)
-
--- a search that came to its end stands behind the input, or has not begun
-pub last-place : (from i n : ℕ) → from ≤ i → (from < i → i ≤ n) → n ≤ i → max from n ≡ i
-last-place from i n h k e = grind (arith, h, k, e)
+pub stop-found : (text : List ℕ) (found : Option ℕ) (count : ℕ) → found ≡ position (λ (c : ℕ). eqb c 10) text → found ≡ Some count → count ≡ length (first_line text)
+stop-found text found count e h = go _ _ (nat_lt _ _) refl (sym h ∙ e) ∙ sym (stop-place text)
+  where
+    go : (n m : ℕ) (b : Bool) → nat_lt n m ≡ b → Some count ≡ cond (nat_lt n m) (Some n) None → count ≡ n
+    go n m true k q = let z : Some count ≡ Some n = q ∙ ap (λ (b : Bool). cond b (Some n) None) k in cc
+    go n m false k q = absurd (let z : Some count ≡ None = q ∙ ap (λ (b : Bool). cond b (Some n) None) k in let y : ◌≡◌ {A = ℕ} 0 1 = cc in omega arith)
 
 -- the line is the first part of what it is the line of
 pub first_short : (l : List ℕ) → length (first_line l) ≤ length l
@@ -43,6 +43,16 @@ first_short (c ∷ cs) = go (eqb c 10) refl (first_short cs)
     go : (b : Bool) → eqb c 10 ≡ b → length (first_line cs) ≤ length cs → length (first_line (c ∷ cs)) ≤ length (c ∷ cs)
     go true e h = rw e (omega arith)
     go false e h = rw e (omega arith)
+
+-- a text without byte 10
+pub stop-none : (text : List ℕ) (found : Option ℕ) → found ≡ position (λ (c : ℕ). eqb c 10) text → found ≡ None → length (first_line text) ≡ length text
+stop-none text found e h =
+    let k : length text ≤ position_or_len (λ (c : ℕ). eqb c 10) text = go _ _ (nat_lt _ _) refl (sym h ∙ e) in
+    omega (arith, k, stop-place text, first_short text)
+  where
+    go : (n m : ℕ) (b : Bool) → nat_lt n m ≡ b → None ≡ cond (nat_lt n m) (Some n) None → m ≤ n
+    go n m true k q = absurd (let z : None ≡ Some n = q ∙ ap (λ (b : Bool). cond b (Some n) None) k in let y : ◌≡◌ {A = ℕ} 0 1 = cc in omega arith)
+    go n m false k q = ltb-false n m k
 
 pub first-taken : (l : List ℕ) → take (length (first_line l)) l ≡ first_line l
 unfolding first_line

@@ -1,8 +1,9 @@
 -- Lines as the calls of a list, many at a time.
-use Rattle.std.specs.Prelude.{◌≡◌, Result, Ok, Err, Bool, cond, false, List, [], ◌++◌, ℕ, zero, suc, ◌+◌, ◌*◌, ◌≤◌, ◌<◌, min, eqb, ℤ, pos, length, drop, get_or, replicate}
+use Rattle.std.specs.Prelude.{◌≡◌, Result, Ok, Err, Bool, false, List, [], ◌++◌, ℕ, zero, suc, ◌+◌, ◌*◌, ◌≤◌, ◌<◌, min, ℤ, pos, length, drop, get_or, replicate}
 use Rattle.sizes.specs.Sizes.{stems_per_frame}
 use Rattle.num.specs.Lists.{part}
-use Rattle.decimal.specs.Written.{Put}
+use Rattle.output.specs.declared.Output.{Output}
+use Rattle.output.specs.Output.{Puts}
 use Rattle.frames.specs.declared.Asked.{Asked}
 use Rattle.frames.specs.declared.Asked.TheVariants as asked
 use Rattle.frames.specs.Listing.{write_register_kind, write_pcm_ram_kind, read_register_kind, peek_register_kind, clock_kind, set_version_kind, asked_of, clocked_by, frames_asked}
@@ -36,16 +37,17 @@ listed_call (Ok line) = Ok (line_call line)
 listed_call (Err why) = Err why
 
 -- the line that a call stands for
-abbrev pub line_as : Asked → Bool → ℕ → ℕ → Result Line LineFault
-line_as asked.WriteRegister is_read address value = Ok (Write address value)
-line_as asked.WritePcmRam is_read address value = Ok (WriteRam address value)
-line_as asked.Look is_read address value = Ok (cond is_read (Read address) (Peek address))
-line_as asked.Clock is_read address value = Ok (Clock address)
-line_as asked.SetVersion is_read address value = Ok (Version address)
-line_as asked.Nothing is_read address value = Err Malformed
+abbrev pub line_as : Asked → ℕ → ℕ → Result Line LineFault
+line_as asked.WriteRegister address value = Ok (Write address value)
+line_as asked.WritePcmRam address value = Ok (WriteRam address value)
+line_as asked.Read address value = Ok (Read address)
+line_as asked.Peek address value = Ok (Peek address)
+line_as asked.Clock address value = Ok (Clock address)
+line_as asked.SetVersion address value = Ok (Version address)
+line_as asked.Nothing address value = Err Malformed
 
 unfoldable pub line_of : ℕ → ℕ → ℕ → Result Line LineFault
-line_of kind address value = line_as (asked_of kind) (eqb kind read_register_kind) address value
+line_of kind address value = line_as (asked_of kind) address value
 
 -- the first n lines of a list: the world after them, and what they print
 unfoldable pub lines_effect : List ℕ → List ℕ → List ℕ → ℕ → World → Effect
@@ -60,16 +62,17 @@ unfoldable pub most_printed : List ℕ → List ℕ → ℕ → ℕ
 most_printed kinds addresses n = 17 * n + 16 * frames_asked kinds addresses 0 n
 
 -- ---- what a call that was made prints: by the byte that it answered, or its frames' two sides
-abbrev pub shown_as : Asked → Bool → ℕ → ℕ → List ℤ → List ℤ → List ℕ
-shown_as asked.WriteRegister is_read address value left right = []
-shown_as asked.WritePcmRam is_read address value left right = []
-shown_as asked.Look is_read address value left right = read_back_line (cond is_read 82 80) address value
-shown_as asked.Clock is_read address value left right = frame_lines left right (min (length left) (length right))
-shown_as asked.SetVersion is_read address value left right = []
-shown_as asked.Nothing is_read address value left right = []
+abbrev pub shown_as : Asked → ℕ → ℕ → List ℤ → List ℤ → List ℕ
+shown_as asked.WriteRegister address value left right = []
+shown_as asked.WritePcmRam address value left right = []
+shown_as asked.Read address value left right = read_back_line 82 address value
+shown_as asked.Peek address value left right = read_back_line 80 address value
+shown_as asked.Clock address value left right = frame_lines left right (min (length left) (length right))
+shown_as asked.SetVersion address value left right = []
+shown_as asked.Nothing address value left right = []
 
 unfoldable pub shown_line : ℕ → ℕ → ℕ → List ℤ → List ℤ → List ℕ
-shown_line kind address value left right = shown_as (asked_of kind) (eqb kind read_register_kind) address value left right
+shown_line kind address value left right = shown_as (asked_of kind) address value left right
 
 -- the first n: each clock has its own part of the sides
 unfoldable pub calls_shown : List ℕ → List ℕ → List ℕ → List ℤ → List ℤ → ℕ → List ℕ
@@ -108,24 +111,24 @@ pub record Silent (kinds addresses values : List ℕ) (stems others left right :
   pub rights : right ≡ replicate (frames_asked kinds addresses 0 (length kinds)) (pos 0)
 
 -- a list's lines played: the world after them, the text put, calls still not refused
-pub record PlaysLines (kinds addresses values : List ℕ) (w next : World) (out now : List ℕ) (at end : ℕ) : Type 0 where
+pub record PlaysLines (kinds addresses values : List ℕ) (w next : World) (out now : Output) : Type 0 where
   pub after : next ≡ (lines_effect kinds addresses values (length kinds) w).after
-  pub put : Put out now at (lines_effect kinds addresses values (length kinds) w).text end
+  pub put : Puts out now (lines_effect kinds addresses values (length kinds) w).text
   pub short : (j : ℕ) → j ≤ length kinds → length (lines_effect kinds addresses values j w).text ≤ most_printed kinds addresses j
   pub accepted : refused_by next ≡ 0
 
--- some lines played, behind `at` bytes of text: a run of such a text goes on behind them; where there are none, none is next
-pub record Batches (input : List ℕ) (w : World) (number from : ℕ) (next : World) (line behind : ℕ) (out now : List ℕ) (at end : ℕ) : Type 0 where
+-- some lines played, behind some text: a run of such a text goes on behind them; where there are none, none is next
+pub record Batches (input : List ℕ) (w : World) (number from : ℕ) (next : World) (line behind : ℕ) (out now : Output) : Type 0 where
   pub text : List ℕ
-  pub put : Put out now at text end
-  pub short : at + length text ≤ length out
-  pub left : (before : List ℕ) → length before ≡ at → run_from (length out) input (spot w number from before) ≡ run_from (length out) input (spot next line behind (before ++ text))
+  pub put : Puts out now text
+  pub short : out.at + length text ≤ length out.buffer.now
+  pub left : (before : List ℕ) → length before ≡ out.at → run_from (length out.buffer.now) input (spot w number from before) ≡ run_from (length out.buffer.now) input (spot next line behind (before ++ text))
   pub on : number ≤ line
-  pub stops : line ≡ number → NoLine input behind × (end + 16384 ≤ length out)
+  pub stops : line ≡ number → NoLine input behind × (now.at + 16384 ≤ length out.buffer.now)
   pub accepted : refused_by next ≡ 0
 
 -- a run ends where no line is played: what is there, and what is put of it
-pub record Stops (next : Next) (p : Player) (from number : ℕ) (out now : List ℕ) (at : ℕ) (r : Ran) : Type 0 where
-  pub is : r ≡ ran_as p next from number r.end
-  pub put : Put out now at (stop_text number next) r.end
+pub record Stops (next : Next) (p : Player) (from number : ℕ) (out now : Output) (r : Ran) : Type 0 where
+  pub is : r ≡ ran_as p next from number now.at
+  pub put : Puts out now (stop_text number next)
   pub short : length (stop_text number next) ≤ 29

@@ -12,9 +12,13 @@ use Rattle.log_player.specs.Worlds.{World}
 use Rattle.log_player.specs.Applied.{after_line, printed}
 use Rattle.log_player.specs.Steps.{Next, first_line, next_of}
 
--- whether a run goes on with line `number`: there is room behind `end` for a line's text, and a number for the line behind it
-unfoldable pub has_room : ℕ → ℕ → ℕ → Bool
-has_room length end number = cond (eqb number 18446744073709551615) false (leb (end + 16384) length)
+-- whether so much room is left behind `end`, and there is a number for the line behind line `number`
+unfoldable pub has_room_of : ℕ → ℕ → ℕ → ℕ → Bool
+has_room_of room length end number = cond (eqb number 18446744073709551615) false (leb (end + room) length)
+
+-- whether a run goes on with line `number`: there is room for a line's text
+abbrev pub has_room : ℕ → ℕ → ℕ → Bool
+has_room = has_room_of 16384
 
 -- ---- a log played up to a place of an input: the world, the number of the line there, the place, the text so far
 pub record Spot : Type 0 where

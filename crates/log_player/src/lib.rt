@@ -8,6 +8,7 @@ mod steps;
 
 pub use batches::listed_call;
 use log_lines::LineFault;
+pub use runs::has_room;
 use s3w2::{Answer, Chip, Refusal};
 pub use steps::{line_end, look};
 
@@ -48,6 +49,7 @@ pub struct Ran {
 }
 
 // A line as the call of a list that it makes: its kind is one of crate `frames`' numbers.
+// Kept as it is: the kind goes into the list that chip_lists::play is lent, whose kinds are any bytes.
 #[derive(Clone, Copy)]
 pub struct ListedCall {
     pub kind: u8,
@@ -56,6 +58,7 @@ pub struct ListedCall {
 }
 
 // So many lines, the frames that they clock, and the place behind them.
+// Kept as it is: the lists are fixed arrays of the caller, of which so many places are filled.
 #[derive(Clone, Copy)]
 pub(crate) struct Gathered {
     pub count: usize,
@@ -63,20 +66,12 @@ pub(crate) struct Gathered {
     pub from: usize,
 }
 
-// A player after some lines, and the place behind what they have printed.
-#[derive(Clone, Copy)]
-pub(crate) struct Played {
-    pub player: Player,
-    pub end: usize,
-}
-
-// The same, the place behind the lines, and the number of the line there.
+// A player after some lines, the place behind them, and the number of the line there.
 #[derive(Clone, Copy)]
 pub(crate) struct Batch {
     pub player: Player,
     pub from: usize,
     pub number: u64,
-    pub end: usize,
 }
 
 // Room for the text of any line: it has at most 16,000 bytes, of 1,000 frames.

@@ -2,13 +2,14 @@
 ghost use Rattle.std.specs.Prelude.{◌≡◌, true, [], ◌+◌, ◌≤◌, ◌<◌, ◌^◌, length};
 ghost use Rattle.std.proofs.lemmas.List.Edits.{sets};
 ghost use Rattle.log_player.specs.Worlds.{world};
-ghost use Rattle.log_player.specs.Runs.{has_room, spot, run_from, refused_by, log_run, ran_to};
+ghost use Rattle.log_player.specs.Runs.{has_room_of, spot, run_from, refused_by, log_run, ran_to};
 
 use crate::{Player, ROOM, Ran, Stop};
+use output::Output;
 
-// Whether there is room behind `end` for a line's text, and a number for the line behind it.
-fn has_room(length: usize, end: usize, number: u64) -> bool
-    ensures result { result ≡ has_room length end number }
+// Whether so much room is left behind `end`, and there is a number for the line behind line `number`.
+pub fn has_room(room: usize, length: usize, end: usize, number: u64) -> bool
+    ensures result { result ≡ has_room_of room length end number }
     ensures number_bound { result ≡ true → number + 1 < 2 ^ 64 }
 {
     if number == 0xffff_ffff_ffff_ffff {
@@ -17,7 +18,7 @@ fn has_room(length: usize, end: usize, number: u64) -> bool
     if length < end {
         return false;
     }
-    ROOM <= length - end
+    room <= length - end
 }
 
 impl Player {
@@ -84,19 +85,18 @@ impl Player {
         let mut player = self;
         let mut place = from;
         let mut line = number;
-        let mut end = 0;
+        let mut text = Output { buffer: out, at: 0 };
         // Kept as it is: a turn plays as many lines as there is room for, so there is no range or chain to go over.
-        while has_room(out.len(), end, line) {
-            let batch = player.batch(input, place, line, &mut *ram, &mut *queues, &mut *out, end);
+        while has_room(ROOM, text.buffer.len(), text.at, line) {
+            let batch = player.batch(input, place, line, &mut *ram, &mut *queues, &mut text);
             let first = line;
             player = batch.player;
             place = batch.from;
             line = batch.number;
-            end = batch.end;
             if line == first {
-                return player.stop(input, place, line, out, end);
+                return player.stop(input, place, line, &mut text);
             }
         }
-        player.ran(Ok(Some(place)), place, line, end)
+        player.ran(Ok(Some(place)), place, line, text.at)
     }
 }

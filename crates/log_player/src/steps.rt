@@ -1,6 +1,6 @@
 // Where a line of an input ends, what comes next, and the end of an input.
 ghost use Rattle.std.specs.Prelude.{◌≡◌, ◌+◌, ◌≤◌, length, drop};
-ghost use Rattle.decimal.specs.Written.{Put};
+ghost use Rattle.output.specs.Output.{Puts};
 ghost use Rattle.log_player.specs.Logs.{end_text};
 ghost use Rattle.log_player.specs.Steps.{first_line, next_of};
 ghost use Rattle.log_player.specs.Runs.{ran_as};
@@ -8,17 +8,18 @@ ghost use Rattle.log_player.specs.Batches.{Stops};
 
 use crate::{Next, Player, Ran, Stop};
 use log_lines::LineFault;
+use output::Output;
 
 // The place of the first byte 10 from `from` on; the input's end where there is none, and `from` where that is past it.
+// Kept as it is: the places that are answered are the whole input's, so with a sub-slice each caller would add its beginning.
+#[inline(never)]
 pub fn line_end(input: &[u8], from: usize) -> usize
     ensures { result ≡ from + length (first_line (drop from input.now)) }
 {
-    for i in from..input.len() {
-        if input[i] == 10 {
-            return i;
-        }
+    match num::tail(input, from).iter().position(|byte| *byte == 10) {
+        Some(count) => from + count,
+        None => from.max(input.len()),
     }
-    from.max(input.len())
 }
 
 // What an input holds at a place: a line that can be played, no whole line, or a bad one. No well-formed line has more than 16
@@ -56,32 +57,26 @@ impl Player {
     }
 
     // Ends a run at `from`; a bad line is told.
-    pub(crate) fn stop(
-        self,
-        input: &[u8],
-        from: usize,
-        number: u64,
-        out: &mut [u8],
-        at: usize,
-    ) -> Ran
-        requires { at ≤ length out.old }
-        ensures { Stops (next_of (drop from input.now) from) self from number out.old out.new at result }
+    pub(crate) fn stop(self, input: &[u8], from: usize, number: u64, out: &mut Output<'_>) -> Ran
+        requires { out.old.at ≤ length out.old.buffer.now }
+        ensures { Stops (next_of (drop from input.now) from) self from number out.old out.new result }
     {
         let next = look(input, from);
         let Err(Stop::Bad(why)) = next else {
-            return self.ran(next, from, number, at);
+            return self.ran(next, from, number, out.at);
         };
-        let end = log_lines::put_bad(out, at, number, why.number());
-        self.ran(next, from, number, end)
+        log_lines::put_bad(&mut *out, number, why.number());
+        self.ran(next, from, number, out.at)
     }
 
     // Puts the last line of the text, where the input ends and `rest` bytes follow its last byte 10.
-    pub fn finish(self, rest: usize, number: u64, out: &mut [u8], at: usize) -> usize
-        ensures { Put out.old out.new at (end_text self number rest) result }
+    pub fn finish(self, rest: usize, number: u64, out: &mut Output<'_>)
+        ensures { Puts out.old out.new (end_text self number rest) }
     {
         if rest == 0 {
-            return log_lines::put_peak(out, at, self.left, self.right);
+            log_lines::put_peak(out, self.left, self.right);
+        } else {
+            log_lines::put_bad(out, number, LineFault::Malformed.number());
         }
-        log_lines::put_bad(out, at, number, LineFault::Malformed.number())
     }
 }

@@ -1,6 +1,7 @@
 // The programs over a log. Here bytes are only read, moved and written; what is printed is log_player's and log_state's.
 #![tactic(auto)]
 
+// Kept as it is: most functions take only two or three of `rt`, `program`, `input` and `text`, so a struct of all would hand on more than is used.
 mod loading;
 mod moving;
 mod playing;
@@ -30,16 +31,27 @@ impl Program {
     }
 }
 
-fn with_buffers(rt: &HostRuntime, program: Program, ram: &mut [u8], queues: &mut [i16]) {
+// What the chip's calls are lent.
+#[derive(Drop)]
+pub(crate) struct Lent<'a> {
+    pub ram: &'a mut [u8],
+    pub queues: &'a mut [i16],
+}
+
+fn with_buffers(rt: &HostRuntime, program: Program, lent: &mut Lent<'_>) {
     let mut input = io::large_buffer();
     // No multiple of 4,096 bytes: the two players on its two sides are copied to each other, which is slow at such a distance.
     let mut text = [0u8; 133120];
-    playing::play(rt, program, &mut input, &mut text, ram, queues);
+    playing::play(rt, program, &mut input, &mut text, lent);
 }
 
 fn with_queues(rt: &HostRuntime, program: Program, queues: &mut [i16]) {
     let mut ram = io::large_buffer();
-    with_buffers(rt, program, &mut ram, queues);
+    let mut lent = Lent {
+        ram: &mut ram,
+        queues,
+    };
+    with_buffers(rt, program, &mut lent);
 }
 
 fn start(rt: &HostRuntime, program: Program) {

@@ -1,9 +1,10 @@
 // A state read from standard input.
-use crate::Program;
 use crate::moving::{read_behind, write_refusal, written};
 use crate::playing::go_on;
+use crate::{Lent, Program};
 use log_player::Player;
 use log_state::{Found, LINES};
+use output::Output;
 use program::{Place, say};
 use session::LineRefusal;
 use std::io::Error;
@@ -11,6 +12,7 @@ use std::io::Error;
 // The lines of a state from before there was a second core.
 const OLD_LINES: usize = 9;
 
+// Kept as it is: the buffer is lent by the caller and read into again, so a line is told by its places.
 // A line that was found: it ends before `to`, and the bytes of the input buffer before `filled` have been read.
 #[derive(Clone, Copy)]
 struct StateLine {
@@ -99,10 +101,15 @@ fn tell_old(k: usize) {
 // Tells which line of the state was refused, the head being line 1.
 fn tell_line(k: usize, text: &mut [u8]) {
     let number = std::num::wrapping_add_u64(k as u64, 1);
-    let end = decimal::put_natural(&mut *text, 0, number);
-    say(b"s3w2-load: line ");
+    let mut out = Output {
+        buffer: &mut *text,
+        at: 0,
+    };
+    out.put_bytes(b"s3w2-load: line ");
+    decimal::put_natural(&mut out, number);
+    out.put_bytes(b" of the state\n");
+    let end = out.at;
     say(num::part(text, 0, end));
-    say(b" of the state\n");
     tell_old(k);
 }
 
@@ -148,7 +155,12 @@ fn fill(
 
 // Prints that the input ends before the RAM does.
 fn cut_short(program: Program, text: &mut [u8]) -> Place {
-    let end = log_state::put_short(&mut *text, 0);
+    let mut out = Output {
+        buffer: &mut *text,
+        at: 0,
+    };
+    log_state::put_short(&mut out);
+    let end = out.at;
     written(program, text, end);
     Place::Stopped
 }
@@ -165,7 +177,12 @@ fn load_ram(
     let Place::Going { from, filled, .. } = place else {
         return place;
     };
-    let got = decimal::put_text(&mut *ram, 0, num::part(input, from, filled));
+    let mut front = Output {
+        buffer: &mut *ram,
+        at: 0,
+    };
+    front.put_bytes(num::part(input, from, filled));
+    let got = front.at;
     let read = fill(rt, program, ram, got);
     match read {
         Ok(Some(_)) => Place::Going {
@@ -186,11 +203,10 @@ fn play_behind(
     place: Place,
     input: &mut [u8],
     text: &mut [u8],
-    ram: &mut [u8],
-    queues: &mut [i16],
+    lent: &mut Lent<'_>,
 ) {
-    let begin = load_ram(rt, program, place, &*input, &mut *text, &mut *ram);
-    go_on(rt, program, player, begin, input, text, ram, queues);
+    let begin = load_ram(rt, program, place, &*input, &mut *text, &mut *lent.ram);
+    go_on(rt, program, player, begin, input, text, lent);
 }
 
 // Reads a state into a fresh player, and goes on where that could be done.
@@ -202,8 +218,7 @@ pub(crate) fn load_state(
     begin: Place,
     input: &mut [u8],
     text: &mut [u8],
-    ram: &mut [u8],
-    queues: &mut [i16],
+    lent: &mut Lent<'_>,
 ) {
     let mut player = fresh;
     let mut place = begin;
@@ -212,9 +227,16 @@ pub(crate) fn load_state(
             return;
         };
         let bytes = num::part(&*input, line.from, line.to);
-        let taken = log_state::take_line(stored, player, &*ram, &mut *queues, k, bytes);
+        let taken = log_state::take_line(
+            stored,
+            player,
+            &mut *lent.ram,
+            &mut *lent.queues,
+            k,
+            bytes,
+        );
         player = taken.player;
         place = behind(program, k, line, taken.answer, &mut *text);
     }
-    play_behind(rt, program, player, place, input, text, ram, queues);
+    play_behind(rt, program, player, place, input, text, lent);
 }

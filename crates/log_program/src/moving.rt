@@ -1,5 +1,6 @@
 // What is said where standard input or standard output fails.
 use crate::Program;
+use output::Output;
 use program::{STDOUT, say};
 use session::LineRefusal;
 use std::io::Error;
@@ -28,7 +29,12 @@ pub(crate) fn write_refusal<T: Copy>(
     answer: Result<T, LineRefusal>,
     text: &mut [u8],
 ) {
-    let end = log_state::put_refusal(answer, &mut *text, 0);
+    let mut out = Output {
+        buffer: &mut *text,
+        at: 0,
+    };
+    log_state::put_refusal(answer, &mut out);
+    let end = out.at;
     written(program, text, end);
 }
 

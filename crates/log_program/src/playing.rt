@@ -1,9 +1,10 @@
 // A log played from standard input.
-use crate::Program;
 use crate::loading::load_state;
 use crate::moving::{complain, read_behind, written};
 use crate::saving::save;
+use crate::{Lent, Program};
 use log_player::{Player, Ran, Stop};
+use output::Output;
 use program::Place;
 use s3w2::Answer;
 
@@ -48,6 +49,7 @@ fn refilled(
 }
 
 // Where a run goes on behind the lines that were played.
+// Kept as it is: s3w2_timed's is of another player's answer and says its own name, so one of both would be handed each part of the answer and the name.
 fn behind(rt: &HostRuntime, program: Program, ran: Ran, filled: usize, input: &mut [u8]) -> Place {
     match ran.next {
         Ok(Some(_)) => Place::Going {
@@ -78,26 +80,25 @@ fn told(
 
 // Prints what follows the last line, if the input has come to its end: the state, or the peaks, or that what follows the last byte 10
 // is a bad line.
-fn end(
-    program: Program,
-    player: Player,
-    place: Place,
-    text: &mut [u8],
-    ram: &[u8],
-    queues: &[i16],
-) {
+fn end(program: Program, player: Player, place: Place, text: &mut [u8], lent: &Lent<'_>) {
     let Place::Ended { rest, number } = place else {
         return;
     };
     if program.saves() && rest == 0 {
-        save(program, player, text, ram, queues);
+        save(program, player, text, &*lent.ram, &*lent.queues);
         return;
     }
-    let end = player.finish(rest, number, &mut *text, 0);
+    let mut out = Output {
+        buffer: &mut *text,
+        at: 0,
+    };
+    player.finish(rest, number, &mut out);
+    let end = out.at;
     written(program, text, end);
 }
 
 // Plays the input from a place on, and writes what it prints.
+// Kept as it is: s3w2_timed's loop is of another player, which is lent one buffer more, so one of both would need a trait for two players.
 pub(crate) fn go_on(
     rt: &HostRuntime,
     program: Program,
@@ -105,8 +106,7 @@ pub(crate) fn go_on(
     begin: Place,
     input: &mut [u8],
     text: &mut [u8],
-    ram: &mut [u8],
-    queues: &mut [i16],
+    lent: &mut Lent<'_>,
 ) {
     let mut player = first;
     let mut place = begin;
@@ -120,11 +120,18 @@ pub(crate) fn go_on(
             break;
         };
         let read = num::part(&*input, 0, filled);
-        let ran = player.run(read, from, number, &mut *ram, &mut *queues, &mut *text);
+        let ran = player.run(
+            read,
+            from,
+            number,
+            &mut *lent.ram,
+            &mut *lent.queues,
+            &mut *text,
+        );
         player = ran.player;
         place = told(rt, program, ran, filled, &mut *input, &*text);
     }
-    end(program, player, place, text, ram, queues);
+    end(program, player, place, text, lent);
 }
 
 // Begins with the state that stands before the log, where a program reads one.
@@ -135,13 +142,12 @@ fn begin(
     place: Place,
     input: &mut [u8],
     text: &mut [u8],
-    ram: &mut [u8],
-    queues: &mut [i16],
+    lent: &mut Lent<'_>,
 ) {
     if let Program::Load { stored, saves: _ } = program {
-        load_state(rt, program, stored, player, place, input, text, ram, queues);
+        load_state(rt, program, stored, player, place, input, text, lent);
     } else {
-        go_on(rt, program, player, place, input, text, ram, queues);
+        go_on(rt, program, player, place, input, text, lent);
     }
 }
 
@@ -151,12 +157,11 @@ pub(crate) fn play(
     program: Program,
     input: &mut [u8],
     text: &mut [u8],
-    ram: &mut [u8],
-    queues: &mut [i16],
+    lent: &mut Lent<'_>,
 ) {
-    let made = Player::fresh(&mut *ram);
+    let made = Player::fresh(&mut *lent.ram);
     let player = made.player;
     let answer = made.answer;
     let place = beginning(program, answer);
-    begin(rt, program, player, place, input, text, ram, queues);
+    begin(rt, program, player, place, input, text, lent);
 }

@@ -40,6 +40,7 @@ pub(crate) fn gather(
 {
     let mut frames = 0;
     let mut place = from;
+    // Kept as it is: the count is also what the loop's exits answer, and a zip of three `iter_mut` with `enumerate` would be longer.
     for count in 0..256 {
         let stop = line_end(input, place);
         if input.len() <= stop {

@@ -7,20 +7,6 @@ ghost use Rattle.std.proofs.Common.{to_z, of_z};
 ghost use Rattle.num.specs.Integers.{clamp16 as clamped16, signed};
 ghost use Rattle.num.specs.Lists.{part as part_of};
 
-// The smaller of two.
-pub fn least(a: usize, b: usize) -> usize
-    ensures { result ≡ min a b }
-{
-    a.min(b)
-}
-
-// The size of a number, without its sign.
-pub fn magnitude(x: i32) -> u32
-    ensures { result ≡ nat_abs x }
-{
-    x.unsigned_abs()
-}
-
 // A size with a sign.
 pub fn with_sign(negative: bool, size: u16) -> i32
     ensures result { result ≡ signed negative size }
@@ -62,7 +48,7 @@ pub fn byte_at(s: &[u8], i: usize) -> u8
 pub fn tail(s: &[u8], from: usize) -> &[u8]
     ensures { result.now ≡ drop from s.now }
 {
-    let at = least(from, s.len());
+    let at = from.min(s.len());
     &s[at..]
 }
 
@@ -70,7 +56,7 @@ pub fn tail(s: &[u8], from: usize) -> &[u8]
 pub fn part(s: &[u8], from: usize, to: usize) -> &[u8]
     ensures { result.now ≡ part_of s.now from (to - from) }
 {
-    let end = least(to, s.len());
-    let start = least(from, end);
+    let end = to.min(s.len());
+    let start = from.min(end);
     &s[start..end]
 }

@@ -82,7 +82,7 @@ pub fn read_from<R: Read>(
     ensures front { take (min kept (length input.old)) input.new
         ≡ take (min kept (length input.old)) input.old }
 {
-    let start = num::least(kept, input.len());
+    let start = kept.min(input.len());
     if start == input.len() {
         return Ok(None);
     }
@@ -127,8 +127,8 @@ pub fn keep(input: &mut [u8], from: usize, to: usize) -> usize
     ensures input_after { take result input.new ≡ part input.old from (to - from) }
     ensures input_unchanged { drop result input.new ≡ drop result input.old }
 {
-    let end = num::least(to, input.len());
-    let start = num::least(from, end);
+    let end = to.min(input.len());
+    let start = from.min(end);
     let count = end - start;
     input.copy_within(start..end, 0);
     count

@@ -22,7 +22,7 @@ fn newline(text: &[u8], from: usize) -> Option<usize>
 fn line_at(buffer: &[u8], from: usize, filled: usize) -> Option<BufferLine>
     ensures line { LineIn buffer.now result }
 {
-    let read = num::least(filled, buffer.len());
+    let read = filled.min(buffer.len());
     let to = newline(&buffer[..read], from)?;
     Some(BufferLine {
         from,

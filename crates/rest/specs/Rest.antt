@@ -1,5 +1,5 @@
 -- A core at rest: eight fresh channels, at the first byte of each wavetable the centre, and decoded fragments of zeros.
-use Rattle.std.specs.Prelude.{Bool, true, false, not, ◌&&◌, List, [], ◌∷◌, ℕ, zero, suc, ◌*◌, eqb, ℤ, pos, nat_abs, get_or, is_none}
+use Rattle.std.specs.Prelude.{Bool, true, not, ◌&&◌, List, [], ◌∷◌, ℕ, zero, suc, ◌*◌, eqb, ℤ, pos, nat_abs, get_or, is_none}
 use Rattle.sizes.specs.Sizes.{num_channels, wavetable_size}
 use Rattle.registers.specs.Control.{default_registers}
 use Rattle.registers.specs.Waveforms.{waveform_number, modulation_number}

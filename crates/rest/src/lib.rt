@@ -43,8 +43,8 @@ fn are_zeros(fragments: [i16; 1024]) -> bool
     ensures { result ≡ zero_fragments fragments }
 {
     let mut others: u16 = 0;
-    for i in 0usize..1024 {
-        if !is_zero(fragments[i]) {
+    for fragment in fragments {
+        if !is_zero(fragment) {
             others += 1;
         }
     }

@@ -1,5 +1,7 @@
 // One channel of a core written and read. A channel above 7 reads 0 and writes nothing; a core above 1 reads 0, or no, and writes
 // nothing.
+// Kept as it is: the calls begin alike, here and in `addressed`; one function of them all would take the core's own call as a closure,
+// and ask of it by clauses what each of these says of its own.
 ghost use Rattle.std.specs.Prelude.{◌≡◌, length};
 ghost use Rattle.s3w2.specs.Channels.{write_channel_wavetable_called, read_channel_wavetable_answer, write_channel_control_called};
 ghost use Rattle.s3w2.specs.Channels.{write_channel_control_buffer, read_channel_control_called, write_channel_pcm_reg_called};

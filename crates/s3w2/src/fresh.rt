@@ -30,7 +30,7 @@ impl Chip {
         ensures { result ≡ core_at self (min k 1) }
     {
         let cores = self.cores;
-        cores[num::least(k, LAST_CORE)]
+        cores[k.min(LAST_CORE)]
     }
 
     // The chip with another core 0 or 1.

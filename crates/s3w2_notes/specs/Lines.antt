@@ -1,6 +1,8 @@
 -- The lines of the sums of note and semitones.
 use Rattle.std.specs.Prelude.{List, [], ◌∷◌, ◌++◌, ℕ, suc, ℤ, pos, ◌-ℤ◌}
-use Rattle.decimal.specs.Written.{Put, decimal, render}
+use Rattle.output.specs.declared.Output.{Output}
+use Rattle.output.specs.Output.{Put, Puts}
+use Rattle.decimal.specs.Written.{decimal, render}
 use Rattle.notes.specs.Pitches.{below_zero, NearestPitch}
 
 -- a sum, a comma, a frequency and byte 10
@@ -17,10 +19,10 @@ pub data SumLines : ℕ → List ℕ → Type 0 where
   more : {k : ℕ} {text : List ℕ} (frequency : ℕ) → SumLines k text → NearestPitch k frequency → SumLines (suc k) (text ++ sum_line (sum_of k) frequency)
 
 -- line k of them, counted from 0, was put into a buffer
-pub record LinePut (before after : List ℕ) (at k r : ℕ) : Type 0 where
+pub record LinePut (before after : Output) (k : ℕ) : Type 0 where
   pub frequency : ℕ
   pub nearest : NearestPitch k frequency
-  pub put : Put before after at (sum_line (sum_of k) frequency) r
+  pub put : Puts before after (sum_line (sum_of k) frequency)
 
 -- the first k lines were, from the buffer's start on
 pub record LinesPut (before after : List ℕ) (k r : ℕ) : Type 0 where

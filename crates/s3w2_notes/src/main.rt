@@ -2,9 +2,12 @@
 #![tactic(auto)]
 
 ghost use Rattle.std.specs.Prelude.{◌≡◌, ◌<◌};
-ghost use Rattle.decimal.specs.Written.{Put};
+ghost use Rattle.output.specs.Output.{Puts};
 ghost use Rattle.notes.specs.Pitches.{sums, sum_at};
 ghost use Rattle.s3w2_notes.specs.Lines.{sum_line, LinePut, LinesPut};
+
+use decimal::{put_natural, put_number};
+use output::Output;
 
 // The descriptors of standard output and standard error.
 const STDOUT: i32 = 1;
@@ -41,35 +44,35 @@ fn pair_of(k: usize) -> Pair
     }
 }
 
-// Puts a sum, a comma, a frequency and byte 10 into out from `at` on, as far as there is room, and answers the place behind them.
-fn put_numbers(out: &mut [u8], at: usize, sum: i64, frequency: u16) -> usize
-    ensures { Put out.old out.new at (sum_line sum frequency) result }
+// Puts a sum, a comma, a frequency and byte 10, as far as there is room.
+fn put_numbers(out: &mut Output<'_>, sum: i64, frequency: u16)
+    ensures { Puts out.old out.new (sum_line sum frequency) }
 {
-    let first = decimal::put_number(out, at, sum);
-    let second = decimal::put_byte(out, first, 44);
-    let third = decimal::put_natural(out, second, frequency as u64);
-    decimal::put_byte(out, third, 10)
+    put_number(&mut *out, sum);
+    out.put_byte(44);
+    put_natural(&mut *out, frequency as u64);
+    out.put_byte(10);
 }
 
 // Puts the line of the sum k - 128.
-fn put_line(out: &mut [u8], at: usize, k: usize) -> usize
+fn put_line(out: &mut Output<'_>, k: usize)
     requires { k < sums }
-    ensures { LinePut out.old out.new at k result }
+    ensures { LinePut out.old out.new k }
 {
     let p = pair_of(k);
     let frequency = notes::frequency(p.note, p.semitones);
-    put_numbers(out, at, (k as i64) - 128, frequency)
+    put_numbers(out, (k as i64) - 128, frequency);
 }
 
-// Puts a line for each sum.
-fn put_lines(out: &mut [u8]) -> usize
-    ensures { LinesPut out.old out.new sums result }
+// Puts a line for each sum, and answers the place behind them.
+fn put_lines(buffer: &mut [u8]) -> usize
+    ensures { LinesPut buffer.old buffer.new sums result }
 {
-    let mut end = 0;
+    let mut out = Output { buffer, at: 0 };
     for k in 0..notes::SUMS {
-        end = put_line(out, end, k);
+        put_line(&mut out, k);
     }
-    end
+    out.at
 }
 
 // 511 lines of at most 10 bytes and byte 10 have room in 8,192.

@@ -1,84 +1,59 @@
 // A line's answer.
-use crate::fields::Figures;
-use crate::{ANSWER_ROOM, Lent, fields, sounding};
-use cores::LAST_CORE;
-use s3w2::{Answer, Called, Chip, Returned};
+use crate::{ANSWER_ROOM, fields, sounding};
+use fields::Figures;
+use output::Output;
+use s3w2::{Answer, Returned};
+use voices::Core;
 
-// The numbers that an answer gives, or that of its refusal.
-fn given(answer: Answer) -> Figures {
-    match answer {
-        Ok(Returned::Done) => Figures::Nothing,
-        Ok(Returned::Byte(x)) => Figures::One(x as u64),
-        Ok(Returned::Count(x)) => Figures::One(x as u64),
-        Ok(Returned::Flag(x)) => Figures::One(fields::flag_number(x)),
-        Ok(Returned::Ended(x)) => Figures::One(x as u64),
-        Ok(Returned::Sample { value, ended }) => {
-            Figures::Two(fields::sample_bits(value), fields::flag_number(ended))
+// The numbers that an answer gives.
+fn given(returned: Returned) -> Figures {
+    match returned {
+        Returned::Done => Figures::Nothing,
+        Returned::Byte(x) => Figures::One(x as u64),
+        Returned::Count(x) => Figures::One(x as u64),
+        Returned::Flag(x) => Figures::One(u64::from(x)),
+        Returned::Ended(x) => Figures::One(x as u64),
+        Returned::Sample { value, ended } => {
+            Figures::Two(fields::sample_bits(value), u64::from(ended))
         }
-        Err(refusal) => Figures::One(refusal.number() as u64),
     }
 }
 
 // What a line tells of no chip, or what its call gives.
-fn answered(answer: Answer, line: &[u64], ram: &[u8]) -> Figures {
+fn figures(returned: Returned, line: &[u64], ram: &[u8]) -> Figures {
     match fields::letter(line) {
         b'A' | b'O' | b'U' | b'u' | b'K' => fields::told(line, ram),
-        _ => given(answer),
+        _ => given(returned),
     }
-}
-
-// The first of some numbers, as far as there are so many.
-fn part(numbers: &[u64], count: usize) -> &[u64] {
-    &numbers[..num::least(count, numbers.len())]
 }
 
 // Puts what a line gives, and the numbers that its frames gave, or the number of its refusal.
-fn put_answer(
-    out: &mut [u8],
-    at: usize,
-    answer: Answer,
-    line: &[u64],
-    ram: &[u8],
-    numbers: &[u64],
-) -> usize {
-    let figures = answered(answer, line, ram);
-    if answer.is_err() {
-        return fields::put_refused(out, at, figures);
+fn put_answer(out: &mut Output<'_>, answer: Answer, line: &[u64], ram: &[u8], numbers: &[u64]) {
+    match answer {
+        Ok(returned) => {
+            fields::put_figures(&mut *out, figures(returned, line, ram));
+            let count = sounding::count(line).min(numbers.len());
+            fields::put_numbers(out, &numbers[..count]);
+        }
+        Err(refusal) => fields::put_refused(out, refusal.number()),
     }
-    let end = fields::put_figures(&mut *out, at, figures);
-    fields::put_numbers(out, end, part(numbers, sounding::count(line)))
 }
 
-// Puts the voice that a D line names.
-fn put_voice(
-    out: &mut [u8],
-    at: usize,
-    chip: Chip,
-    lent: Lent,
-    line: &[u64],
-    queues: &[i16],
-) -> usize {
-    let k = num::least(lent.core, LAST_CORE);
-    let q = num::least(lent.queues, queues.len());
-    fields::put_voice(chip.cores[k], k, line, &queues[..q], out, at)
-}
-
-// Writes the answers before a place where another may not fit behind them, and puts a line's answer.
+// Writes the answers before a place where another may not fit behind them, and puts a line's answer, behind which the core is as given.
 pub(crate) fn put(
-    out: &mut [u8],
-    end: usize,
-    called: Called,
-    lent: Lent,
+    out: &mut Output<'_>,
+    answer: Answer,
+    core: Core,
+    number: usize,
     line: &[u64],
     ram: &[u8],
     queues: &[i16],
     numbers: &[u64],
-) -> usize {
-    let answer = called.answer;
-    let bytes = num::part(ram, 0, lent.ram);
-    let first = program::flush(&*out, end, ANSWER_ROOM);
-    let second = decimal::put_byte(&mut *out, first, fields::letter(line));
-    let third = put_answer(&mut *out, second, answer, line, bytes, numbers);
-    let fourth = put_voice(&mut *out, third, called.chip, lent, line, queues);
-    decimal::put_byte(out, fourth, 10)
+) {
+    let end = out.at;
+    out.at = program::flush(&*out.buffer, end, ANSWER_ROOM);
+    out.put_byte(fields::letter(line));
+    put_answer(&mut *out, answer, line, ram, numbers);
+    fields::put_voice(&mut *out, core, number, line, queues);
+    out.put_byte(10);
 }

@@ -1,5 +1,5 @@
 // A line's call.
-use crate::{Lent, fields, sounding};
+use crate::{fields, sounding};
 use cores::LAST_CORE;
 use s3w2::{Answer, Called, Chip, Returned};
 
@@ -45,10 +45,10 @@ fn write_bytes(chip: Chip, line: &[u64], ram: &mut [u8]) -> Called {
         answer: Ok(Returned::Done),
     };
     let mut at = fields::word(line, 1);
-    for i in 2..line.len() {
+    for field in line.iter().skip(2) {
         let last = called.chip;
-        called = last.write_pcm_ram(&mut *ram, at, fields::byte(line, i));
-        at = std::num::wrapping_add_u32(at, 1);
+        called = last.write_pcm_ram(&mut *ram, at, (*field % 256) as u8);
+        at = at.wrapping_add(1);
     }
     called
 }
@@ -64,7 +64,7 @@ fn called_with_ram(chip: Chip, line: &[u64], ram: &mut [u8]) -> Called {
 
 // The chip with a voice of one of its cores set by a line.
 fn set(mut chip: Chip, core: usize, line: &[u64], queues: &mut [i16]) -> Called {
-    let k = num::least(core, LAST_CORE);
+    let k = core.min(LAST_CORE);
     let old = chip.cores[k];
     chip.cores[k] = fields::changed(old, line);
     fields::fill_queue(queues, k, line);
@@ -93,26 +93,18 @@ fn called_with_queues(
     }
 }
 
-// The call of a line over the first bytes of the RAM and the first entries of the queues. What frames give is put to the numbers.
+// The call of a line over the RAM and the queues that are lent to the chip. What frames give is put to the numbers.
 pub(crate) fn called(
     chip: Chip,
-    lent: Lent,
+    core: usize,
     line: &[u64],
     ram: &mut [u8],
     queues: &mut [i16],
     numbers: &mut [u64],
 ) -> Called {
-    let n = num::least(lent.ram, ram.len());
-    let q = num::least(lent.queues, queues.len());
     match fields::letter(line) {
-        b'N' | b'Z' | b'M' | b'B' => called_with_ram(chip, line, &mut ram[..n]),
-        b'S' | b'X' | b'Y' | b'y' | b's' => {
-            let bytes = num::part(&*ram, 0, n);
-            sounding::sounded(chip, line, bytes, &mut queues[..q], numbers)
-        }
-        _ => {
-            let bytes = num::part(&*ram, 0, n);
-            called_with_queues(chip, lent.core, line, bytes, &mut queues[..q])
-        }
+        b'N' | b'Z' | b'M' | b'B' => called_with_ram(chip, line, ram),
+        b'S' | b'X' | b'Y' | b'y' | b's' => sounding::sounded(chip, line, ram, queues, numbers),
+        _ => called_with_queues(chip, core, line, ram, queues),
     }
 }

@@ -8,12 +8,13 @@ mod sounds;
 mod telling;
 mod writing;
 
-pub(crate) use reading::{byte, first, letter, long, parse, size, version, word};
+pub(crate) use reading::{byte, letter, long, parse, size, version, word};
+pub(crate) use seeds::Seeded;
 pub(crate) use setting::{changed, fill_queue};
 pub(crate) use showing::put_voice;
-pub(crate) use sounds::{fill_sides, fill_wide_sides, keep_both, keep_sides};
+pub(crate) use sounds::{fill_sides, keep_sides};
 pub(crate) use telling::told;
-pub(crate) use writing::{flag_number, put_figures, put_numbers, put_refused, sample_bits};
+pub(crate) use writing::{put_figures, put_numbers, put_refused, sample_bits};
 
 // The numbers of an answer.
 #[derive(Clone, Copy, Debug, PartialEq, Eq)]

@@ -6,7 +6,8 @@ mod calls;
 mod fields;
 mod sounding;
 
-use cores::CHIP_QUEUES;
+use cores::{CHIP_QUEUES, LAST_CORE};
+use output::Output;
 use s3w2::Chip;
 use version::SguVersion;
 
@@ -20,35 +21,12 @@ const RAM_ROOM: usize = 1048576;
 const ANSWER_ROOM: usize = 131072;
 
 // The lengths of RAM and queue buffer that are lent to the chip, and the core that lines name.
+// Kept as it is: a later line may ask for more again, so the lengths stand beside the whole buffers.
 #[derive(Clone, Copy)]
 struct Lent {
     ram: usize,
     queues: usize,
     core: usize,
-}
-
-// A chip, what is lent to it, and the place behind the answers that are not written yet.
-#[derive(Clone, Copy)]
-struct Player {
-    chip: Chip,
-    lent: Lent,
-    end: usize,
-}
-
-// A chip over the first bytes of the RAM.
-fn first(ram: &mut [u8]) -> Player {
-    let length = num::least(256, ram.len());
-    let called = Chip::with_version(&mut ram[..length], SguVersion::V3_1);
-    let chip = called.chip;
-    Player {
-        chip,
-        lent: Lent {
-            ram: 256,
-            queues: CHIP_QUEUES,
-            core: 0,
-        },
-        end: 0,
-    }
 }
 
 impl Lent {
@@ -71,57 +49,85 @@ impl Lent {
     }
 }
 
-impl Player {
+// A chip, the buffers of which it is lent the first entries, and the answers that are not written yet.
+#[derive(Drop)]
+struct Player<'a> {
+    chip: Chip,
+    lent: Lent,
+    ram: &'a mut [u8],
+    queues: &'a mut [i16],
+    out: Output<'a>,
+}
+
+impl Player<'_> {
     // Plays a line's fields.
-    fn play(self, line: &[u64], ram: &mut [u8], queues: &mut [i16], out: &mut [u8]) -> Player {
+    fn play(&mut self, line: &[u64]) {
         let mut numbers = [0u64; sounding::STEMS];
-        let before = self.lent;
-        let lent = before.after(line);
-        let called = calls::called(self.chip, lent, line, &mut *ram, &mut *queues, &mut numbers);
+        let lent = self.lent.after(line);
+        let n = lent.ram.min(self.ram.len());
+        let q = lent.queues.min(self.queues.len());
+        let last = self.chip;
+        let ram = &mut self.ram[..n];
+        let queues = &mut self.queues[..q];
+        let called = calls::called(last, lent.core, line, &mut *ram, &mut *queues, &mut numbers);
         let chip = called.chip;
-        let end = answers::put(out, self.end, called, lent, line, &*ram, &*queues, &numbers);
-        Player { chip, lent, end }
+        let k = lent.core.min(LAST_CORE);
+        let core = chip.cores[k];
+        let out = &mut self.out;
+        answers::put(out, called.answer, core, k, line, &*ram, &*queues, &numbers);
+        self.chip = chip;
+        self.lent = lent;
     }
 
     // Plays one line, without its closing byte 10.
-    fn line(self, text: &[u8], ram: &mut [u8], queues: &mut [i16], out: &mut [u8]) -> Player {
+    fn line(&mut self, text: &[u8]) {
         let letter = num::byte_at(text, 0);
         let mut f = [letter as u64; FIELDS];
         let count = fields::parse(text, &mut f);
-        self.play(fields::first(&f, count), ram, queues, out)
+        self.play(&f[..count]);
     }
 }
 
-// Plays every line of the input, and answers the place behind the answers that are not written yet.
-fn play_lines(
-    rt: &HostRuntime,
-    ram: &mut [u8],
-    queues: &mut [i16],
-    text: &mut [u8],
-    out: &mut [u8],
-) -> usize {
-    let mut player = first(&mut *ram);
+// A chip over the first bytes of the RAM.
+fn first(ram: &mut [u8]) -> Chip {
+    let length = ram.len().min(256);
+    let called = Chip::with_version(&mut ram[..length], SguVersion::V3_1);
+    called.chip
+}
+
+// Plays every line of the input.
+fn play_lines(rt: &HostRuntime, player: &mut Player<'_>, text: &mut [u8]) {
     let mut before = None;
     for _ in 0..u64::MAX {
         let Some(line) = program::next_line(rt, &mut *text, before) else {
-            return player.end;
+            return;
         };
-        player = player.line(
-            num::part(&*text, line.from, line.to),
-            &mut *ram,
-            &mut *queues,
-            &mut *out,
-        );
+        player.line(num::part(&*text, line.from, line.to));
         before = Some(line);
     }
-    player.end
 }
 
 fn with_texts(rt: &HostRuntime, ram: &mut [u8], queues: &mut [i16]) {
     let mut text = io::large_buffer();
-    let mut out = [0u8; 2 * ANSWER_ROOM];
-    let end = play_lines(rt, ram, queues, &mut text, &mut out);
-    program::flush(&out, end, 2 * ANSWER_ROOM);
+    let mut buffer = [0u8; 2 * ANSWER_ROOM];
+    let chip = first(&mut *ram);
+    let mut player = Player {
+        chip,
+        lent: Lent {
+            ram: 256,
+            queues: CHIP_QUEUES,
+            core: 0,
+        },
+        ram,
+        queues,
+        out: Output {
+            buffer: &mut buffer,
+            at: 0,
+        },
+    };
+    play_lines(rt, &mut player, &mut text);
+    let end = player.out.at;
+    program::flush(&buffer, end, 2 * ANSWER_ROOM);
 }
 
 fn main(rt: HostRuntime) {

@@ -5,16 +5,27 @@ mod playing;
 
 use cores::CHIP_QUEUES;
 
-fn with_buffers(rt: &HostRuntime, ram: &mut [u8], queues: &mut [i16]) {
+// What the chip's calls are lent.
+#[derive(Drop)]
+pub(crate) struct Lent<'a> {
+    pub ram: &'a mut [u8],
+    pub queues: &'a mut [i16],
+}
+
+fn with_buffers(rt: &HostRuntime, lent: &mut Lent<'_>) {
     let mut input = io::large_buffer();
     let mut plain = [0u8; 66560];
     let mut text = [0u8; 67584];
-    playing::play(rt, &mut input, &mut plain, &mut text, ram, queues);
+    playing::play(rt, &mut input, &mut plain, &mut text, lent);
 }
 
 fn with_queues(rt: &HostRuntime, queues: &mut [i16]) {
     let mut ram = io::large_buffer();
-    with_buffers(rt, &mut ram, queues);
+    let mut lent = Lent {
+        ram: &mut ram,
+        queues,
+    };
+    with_buffers(rt, &mut lent);
 }
 
 fn main(rt: HostRuntime) {

@@ -1,4 +1,5 @@
 // A timed log played from standard input. Here bytes are only read, moved and written; what is printed is timed_log's.
+use crate::Lent;
 use log_player::Stop;
 use program::{Place, STDOUT, say};
 use s3w2::Answer;
@@ -40,9 +41,9 @@ fn write_end(finished: Finished, text: &[u8]) {
 }
 
 // Ends the text, where the input has come to its end.
-fn finish(timed: Timed, place: Place, text: &mut [u8], ram: &mut [u8], queues: &mut [i16]) {
+fn finish(timed: Timed, place: Place, text: &mut [u8], lent: &mut Lent<'_>) {
     if let Place::Ended { rest, number } = place {
-        let finished = timed.finish(rest, number, ram, queues, &mut *text);
+        let finished = timed.finish(rest, number, &mut *lent.ram, &mut *lent.queues, &mut *text);
         write_end(finished, text);
     }
 }
@@ -95,8 +96,7 @@ fn go_on(
     input: &mut [u8],
     plain: &mut [u8],
     text: &mut [u8],
-    ram: &mut [u8],
-    queues: &mut [i16],
+    lent: &mut Lent<'_>,
 ) {
     let mut timed = fresh;
     let mut place = begin;
@@ -114,14 +114,14 @@ fn go_on(
             from,
             number,
             &mut *plain,
-            &mut *ram,
-            &mut *queues,
+            &mut *lent.ram,
+            &mut *lent.queues,
             &mut *text,
         );
         timed = ran.timed;
         place = told(rt, ran, filled, &mut *input, &*text);
     }
-    finish(timed, place, text, ram, queues);
+    finish(timed, place, text, lent);
 }
 
 // Plays the whole input.
@@ -130,12 +130,11 @@ pub(crate) fn play(
     input: &mut [u8],
     plain: &mut [u8],
     text: &mut [u8],
-    ram: &mut [u8],
-    queues: &mut [i16],
+    lent: &mut Lent<'_>,
 ) {
-    let made = Timed::fresh(&mut *ram);
+    let made = Timed::fresh(&mut *lent.ram);
     let timed = made.timed;
     let answer = made.answer;
     let place = beginning(answer);
-    go_on(rt, timed, place, input, plain, text, ram, queues);
+    go_on(rt, timed, place, input, plain, text, lent);
 }

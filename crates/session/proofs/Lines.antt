@@ -29,13 +29,15 @@ use Rattle.s3w2.proofs.Cases.{all_there}
 use Rattle.num.proofs.Choice.{never}
 use Rattle.session.specs.declared.LineRefusal.{LineRefusal}
 use Rattle.s3w2.specs.declared.Chip.{Chip}
-use Rattle.session.specs.declared.LineRefusal.TheVariants.{OfChip, Malformed, OtherLength, Queued}
+use Rattle.session.specs.declared.LineRefusal.TheVariants.{TextBuffer, Malformed, OtherLength, Queued}
 use Rattle.session.specs.Answers.{LineAnswer, field_refused, voice_refused, line_answered, wrote, state_accepted, queues_lent, with_state, with_lent_queues, with_lent_ram}
 use Rattle.session.specs.Heads.{version_called, head_called}
 use Rattle.session.specs.Voices.{core_of, line_of_voice, write_voice_answer, write_voice_text, loaded_chip, loaded_queues, voice_called, voice_queues}
 use Rattle.session.proofs.Told.{by-voice, by-fault, by-queue}
 use Rattle.std.specs.Prelude.{Ok, Err}
 use Rattle.line_fields.specs.declared.FieldError.{FieldError}
+use Rattle.line_fields.specs.declared.RoomError.{RoomError}
+use Rattle.line_fields.specs.declared.RoomError.TheVariants as room
 use Rattle.line_fields.specs.declared.FieldError.TheVariants as fault
 use Rattle.session_lines.specs.declared.VoiceError.{VoiceError}
 use Rattle.session_lines.specs.declared.VoiceError.TheVariants as told
@@ -43,15 +45,9 @@ use Rattle.session_lines.specs.declared.SessionHead.TheVariants.{Version, Sized}
 
 -- ---- the queue buffer, then the state
 module _ {A : Type 0} (chip : Chip) (queues : List ℤ) (done not_accepted not_lent : A) where
-  pub not-lent : (length queues ≡ chip_queues → ⊥) → not_lent ≡ with_lent_queues chip queues done not_accepted not_lent
-  not-lent h = second-arm (queues_lent queues) (with_state chip done not_accepted) not_lent (ne_eqb (length queues) chip_queues h)
-
   module _ (h : length queues ≡ chip_queues) where
     lent : with_state chip done not_accepted ≡ with_lent_queues chip queues done not_accepted not_lent
     lent = first-arm (queues_lent queues) (with_state chip done not_accepted) not_lent (eq-eqb (length queues) chip_queues h)
-
-    pub not-accepted : state_accepted chip ≡ false → not_accepted ≡ with_lent_queues chip queues done not_accepted not_lent
-    not-accepted e = second-arm (state_accepted chip) done not_accepted e ∙ lent
 
     pub goes-on : state_accepted chip ≡ true → done ≡ with_lent_queues chip queues done not_accepted not_lent
     goes-on e = first-arm (state_accepted chip) done not_accepted e ∙ lent
@@ -80,11 +76,14 @@ module _ {A : Type 0} (chip : Chip) (done : A) (f : Refusal → A) (r : Checked)
       go true false k = ap (λ (x : Checked). f (why_in x)) (sym k)
       go false b k = ap (λ (x : Checked). f (why_in x)) (sym k)
 
--- and as `?` hands it on
-pub handed : {A : Type 0} (given : LineAnswer A) (why : Refusal) → IsErrAnd given (λ x. x ≡ OfChip why) → given ≡ Err (OfChip why)
+-- a refusal as `?` hands it on
+pub handed : {A : Type 0} (given : LineAnswer A) (why : LineRefusal) → IsErrAnd given (λ x. x ≡ why) → given ≡ Err why
 handed given why k =
     let p = err_from_is_err_and given k in
     p.1 ∙ ap (λ (x : LineRefusal). Err x) p.2
+
+pub no-room : (w : Written) (e : RoomError) → w ≡ Err e → Err TextBuffer ≡ wrote w
+no-room w room.TextBuffer h = sym (ap wrote h)
 
 -- ---- what a call that goes on is lent
 pub on-ram : (chip : Chip) (ram : ℕ) (r : Checked) → r ≡ ram_refusal chip ram → is_ok r ≡ true → (is_ram_length ram ≡ true) × (accepts_chip chip ram ≡ true)
@@ -95,15 +94,9 @@ on-queues chip queues r e h = let t = all_there true (queues_lent queues) (state
 
 -- ---- the RAM's length, then the state
 module _ {A : Type 0} (chip : Chip) (ram : ℕ) (done not_accepted not_lent : A) where
-  pub other-ram : is_ram_length ram ≡ false → not_lent ≡ with_lent_ram chip ram done not_accepted not_lent
-  other-ram e = second-arm (is_ram_length ram) (cond (accepts_chip chip ram) done not_accepted) not_lent e
-
   module _ (h : is_ram_length ram ≡ true) where
     lent-ram : cond (accepts_chip chip ram) done not_accepted ≡ with_lent_ram chip ram done not_accepted not_lent
     lent-ram = first-arm (is_ram_length ram) (cond (accepts_chip chip ram) done not_accepted) not_lent h
-
-    pub other-state : accepts_chip chip ram ≡ false → not_accepted ≡ with_lent_ram chip ram done not_accepted not_lent
-    other-state e = second-arm (accepts_chip chip ram) done not_accepted e ∙ lent-ram
 
     pub goes_over : accepts_chip chip ram ≡ true → done ≡ with_lent_ram chip ram done not_accepted not_lent
     goes_over e = first-arm (accepts_chip chip ram) done not_accepted e ∙ lent-ram

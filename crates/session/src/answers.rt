@@ -1,7 +1,7 @@
 // What the calls answer.
 ghost use Rattle.std.specs.Prelude.{◌≡◌, get_or, slice_get};
 ghost use Rattle.session.specs.declared.LineRefusal.TheVariants as refusals;
-ghost use Rattle.session.specs.Answers.{refusal_numbers, wrote, field_refused, voice_refused, line_answered};
+ghost use Rattle.session.specs.Answers.{refusal_numbers, field_refused, voice_refused, line_answered};
 
 use crate::{LineCalled, LineRefusal};
 use line_fields::{FieldError, RoomError};
@@ -14,12 +14,13 @@ pub(crate) fn answers(chip: Chip, answer: Result<(), LineRefusal>) -> LineCalled
     LineCalled { chip, answer }
 }
 
-pub(crate) fn told(written: Result<usize, RoomError>) -> Result<usize, LineRefusal>
-    ensures { result ≡ wrote written }
-{
-    match written {
-        Ok(n) => Ok(n),
-        Err(RoomError::TextBuffer) => Err(LineRefusal::TextBuffer),
+impl From<RoomError> for LineRefusal {
+    ghost from_gives = { λ error refusal. refusal ≡ refusals.TextBuffer };
+
+    fn from(error: RoomError) -> LineRefusal {
+        match error {
+            RoomError::TextBuffer => LineRefusal::TextBuffer,
+        }
     }
 }
 
@@ -72,10 +73,7 @@ impl LineRefusal {
     {
         match self {
             LineRefusal::Malformed(field) => Some(field),
-            LineRefusal::OfChip(_) => None,
-            LineRefusal::TextBuffer => None,
-            LineRefusal::OtherLength => None,
-            LineRefusal::Queued => None,
+            _ => None,
         }
     }
 }

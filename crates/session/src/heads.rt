@@ -2,7 +2,7 @@
 ghost use Rattle.std.specs.Prelude.{◌≡◌, length};
 ghost use Rattle.session.specs.Heads.{write_head_answer, write_head_text, version_called, read_head_called};
 
-use crate::answers::{answers, told};
+use crate::answers::answers;
 use crate::{LineCalled, LineRefusal};
 use s3w2::Chip;
 use session_lines::SessionHead;
@@ -15,7 +15,7 @@ pub fn write_head(chip: Chip, ram: &[u8], out: &mut [u8]) -> Result<usize, LineR
 {
     chip.refusal_with_ram(ram.len())?;
     let version = chip.version;
-    told(session_lines::write_head(version, ram.len(), out))
+    Ok(session_lines::write_head(version, ram.len(), out)?)
 }
 
 fn set_version(chip: Chip, version: SguVersion) -> LineCalled

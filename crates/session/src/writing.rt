@@ -3,7 +3,6 @@ ghost use Rattle.std.specs.Prelude.{◌≡◌};
 ghost use Rattle.session.specs.Voices.{write_voice_answer, write_voice_text};
 
 use crate::LineRefusal;
-use crate::answers::told;
 use cores::CHIP_VOICES;
 use s3w2::Chip;
 use sizes::{FIFO_CAPACITY, NUM_CHANNELS};
@@ -32,5 +31,6 @@ pub fn write_voice(
     let end = first + FIFO_CAPACITY;
     let c = channels[ch];
     let wavetable = num::part(&tables, at, at + 256);
-    told(session_lines::write_voice(c, voice, wavetable, &queues[first..end], out))
+    let written = session_lines::write_voice(c, voice, wavetable, &queues[first..end], out)?;
+    Ok(written)
 }

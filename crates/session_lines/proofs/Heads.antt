@@ -12,9 +12,11 @@ use lib.ListN.{length, take, drop, get_or, length-append}
 use lib.Seq.{drop_at, drop-drop, get_or-drop}
 use borrow.Author.Tests.{eqb-true, eqb-false, eq-eqb, ne_eqb, le-leb, lt-leb}
 use Rattle.num.proofs.Choice.{never}
-use Rattle.decimal.specs.Written.{decimal, Put}
+use Rattle.decimal.specs.Written.{decimal}
 use Rattle.decimal.specs.Read.{natural_at}
-use Rattle.decimal.proofs.Writing.{put-append}
+use Rattle.output.specs.declared.Output.{Output}
+use Rattle.output.specs.Output.{Put, Puts}
+use Rattle.output.proofs.Writing.{puts-append}
 use Rattle.decimal.proofs.RoundTrip.{natural-back}
 use Rattle.line_fields.specs.Reading.{ends_at, closed_at}
 use Rattle.line_fields.specs.Text.{written_of, put_of}
@@ -90,9 +92,6 @@ module _ (t : List ℕ) (version : SguVersion) (size next : ℕ) where
   pub not-allowed : is_ram_length size ≡ false → sized_head t version (Some (size, next)) ≡ Err (Malformed 3)
   not-allowed e = rw e
 
-  pub sized-open : is_ram_length size ≡ true → closed_at t next ≡ false → sized_head t version (Some (size, next)) ≡ Err (Malformed 4)
-  sized-open e f = rw (e, f)
-
   pub three-fields : is_ram_length size ≡ true → closed_at t next ≡ true → sized_head t version (Some (size, next)) ≡ Ok (Sized version size)
   three-fields e f = rw (e, f)
 
@@ -108,15 +107,11 @@ pub head-width : (version : SguVersion) (size : ℕ) → length (head_text versi
 unfolding head_text
 head-width version size = omega (arith, length-append (decimal size) (10 ∷ []))
 
-pub head-put : (l a b c d k : List ℕ) (e f g h r n : ℕ) (version : SguVersion) (size : ℕ) → n ≡ version_number version → Put l a 0 (83 ∷ 51 ∷ 87 ∷ 50 ∷ 44 ∷ []) e → Put a b e ((48 + n) ∷ []) f
-    → Put b c f (44 ∷ []) g → Put c d g (decimal size) h → Put d k h (10 ∷ []) r → Put l k 0 (head_text version size) r
+pub head-puts : (s a b c d u : Output) (n : ℕ) (version : SguVersion) (size : ℕ) → n ≡ version_number version → Puts s a (83 ∷ 51 ∷ 87 ∷ 50 ∷ 44 ∷ []) → Puts a b ((48 + n) ∷ [])
+    → Puts b c (44 ∷ []) → Puts c d (decimal size) → Puts d u (10 ∷ []) → Puts s u (head_text version size)
 unfolding head_text
-head-put l a b c d k e f g h r n version size q p1 p2 p3 p4 p5 =
-    rw (← q)
-    (put-append l a k 0 e r (83 ∷ 51 ∷ 87 ∷ 50 ∷ 44 ∷ []) ((48 + n) ∷ 44 ∷ (decimal size ++ (10 ∷ []))) p1
-    (put-append a b k e f r ((48 + n) ∷ []) (44 ∷ (decimal size ++ (10 ∷ []))) p2
-    (put-append b c k f g r (44 ∷ []) (decimal size ++ (10 ∷ [])) p3
-    (put-append c d k g h r (decimal size) (10 ∷ []) p4 p5))))
+head-puts s a b c d u n version size q p1 p2 p3 p4 p5 =
+    rw (← q) (puts-append s a u _ _ p1 (puts-append a b u _ _ p2 (puts-append b c u _ _ p3 (puts-append c d u _ _ p4 p5))))
 
 module _ (out : List ℕ) (version : SguVersion) (size width : ℕ) (w : width ≡ length (decimal size)) where
   pub head-yes : (k : List ℕ) (r : ℕ) → 8 + width ≤ length out → Put out k 0 (head_text version size) r → (Ok r ≡ written_of out (head_text version size)) × (k ≡ put_of out (head_text version size))

@@ -92,9 +92,6 @@ module _ (stored : Bool) (version : SguVersion) where
     unfolding voice_of
     told-yes n e h = ap Ok h ∙ ap told_of (sym (allowed e))
 
-    pub after-queued : (c : Channel) (w : List ℕ) (l : List ℤ) → allows_fifo version queue ≡ false → (c ≡ channel_after (by f) c) × ((w ≡ table_after (by f) w) × (l ≡ queue_after (by f) l))
-    after-queued c w l e = let z = sym (not-allowed e) in (ap (λ (s : ReadVoice). channel_after s c) z, (ap (λ (s : ReadVoice). table_after s w) z, ap (λ (s : ReadVoice). queue_after s l) z))
-
     pub after-yes : (c d : Channel) (w v : List ℕ) (l p : List ℤ) → allows_fifo version queue ≡ true → d ≡ channel_from f queue → v ≡ sets w 0 (table_of f) → p ≡ sets l 0 (queued_samples f queue.count)
         → (d ≡ channel_after (by f) c) × ((v ≡ table_after (by f) w) × (p ≡ queue_after (by f) l))
     unfolding voice_of

@@ -7,6 +7,7 @@ ghost use Rattle.session_lines.specs.Head.{head_text, has_magic as is_named, siz
 
 use crate::SessionHead;
 use line_fields::{FieldError, RoomError};
+use output::Output;
 use version::SguVersion;
 
 // Writes the head of a chip over a RAM of a length, if there is room for it.
@@ -20,11 +21,13 @@ pub fn write_head(version: SguVersion, size: usize, out: &mut [u8]) -> Result<us
         return Err(RoomError::TextBuffer);
     }
     let number = u8::from(version);
-    let first = decimal::put_text(out, 0, b"S3W2,");
-    let second = decimal::put_byte(out, first, 48 + number);
-    let third = decimal::put_byte(out, second, b',');
-    let fourth = decimal::put_natural(out, third, size as u64);
-    Ok(decimal::put_byte(out, fourth, 10))
+    let mut head = Output { buffer: out, at: 0 };
+    head.put_bytes(b"S3W2,");
+    head.put_byte(48 + number);
+    head.put_byte(b',');
+    decimal::put_natural(&mut head, size as u64);
+    head.put_byte(10);
+    Ok(head.at)
 }
 
 fn named(text: &[u8]) -> bool

@@ -50,7 +50,7 @@ pub fn check_voice(stored: bool, version: SguVersion, text: &[u8]) -> Result<usi
 fn take_table(line: LineNumbers, wavetable: &mut [u8])
     ensures { wavetable.new ≡ sets wavetable.old 0 (table_of (at line.entry.numbers.now)) }
 {
-    let end = num::least(wavetable.len(), 256);
+    let end = wavetable.len().min(256);
     for i in 0..end {
         wavetable[i] = line.byte(25 + i);
     }
@@ -60,7 +60,7 @@ fn take_table(line: LineNumbers, wavetable: &mut [u8])
 fn take_samples(line: LineNumbers, count: usize, queue: &mut [i16])
     ensures { queue.new ≡ sets queue.old 0 (queued_samples (at line.entry.numbers.now) count) }
 {
-    let end = num::least(queue.len(), count);
+    let end = queue.len().min(count);
     for i in 0..end {
         queue[i] = line.sample(282 + i);
     }

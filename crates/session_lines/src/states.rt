@@ -163,7 +163,7 @@ impl LineNumbers<'_> {
         Channel {
             oscillator: self.oscillator(),
             fifo: queue,
-            stream: StreamCache::empty(),
+            stream: StreamCache::default(),
             pcm: self.pcm(),
             registers: self.registers(),
         }

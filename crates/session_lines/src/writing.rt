@@ -17,7 +17,7 @@ use voice::Channel;
 fn put_first(first: &[u64], numbers: &mut [u64])
     ensures { numbers.new ≡ sets numbers.old 0 first.now }
 {
-    let count = num::least(first.len(), numbers.len());
+    let count = first.len().min(numbers.len());
     numbers[..count].copy_from_slice(&first[..count]);
 }
 
@@ -41,7 +41,7 @@ fn put_queue(f: Fifo, queue: &[i16], numbers: &mut [u64]) -> usize
     ensures result { result ≡ min f.count fifo_capacity }
     ensures numbers { numbers.new ≡ sets numbers.old 281 (queue_numbers f queue.now) }
 {
-    let count = num::least(f.count, FIFO_CAPACITY);
+    let count = f.count.min(FIFO_CAPACITY);
     let head = f.head % FIFO_CAPACITY;
     put_number(numbers, 281, count as u64);
     for i in 0..count {

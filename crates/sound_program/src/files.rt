@@ -4,6 +4,7 @@ use crate::measuring::print_last;
 use crate::playing::play;
 use crate::{Run, Sound, State};
 use cores::{CHIP_STEMS, CHIP_VOICES};
+use output::Output;
 use program::{STDOUT, say};
 use sizes::SAMPLE_RATE;
 use std::io::Seek;
@@ -24,9 +25,12 @@ pub(crate) fn complain(reason: &[u8]) {
 // Says a word, a number and byte 10.
 pub(crate) fn say_count(word: &[u8], count: u64) {
     let mut text = [0u8; 64];
-    let first = decimal::put_text(&mut text, 0, word);
-    let second = decimal::put_natural(&mut text, first, count);
-    let end = decimal::put_byte(&mut text, second, 10);
+    let mut out = Output {
+        buffer: &mut text,
+        at: 0,
+    };
+    decimal::put_line(&mut out, word, count);
+    let end = out.at;
     say(num::part(&text, 0, end));
 }
 
@@ -67,7 +71,7 @@ fn files_of(sound: Sound) -> Files {
 pub(crate) fn of_voice(first: i32, n: usize) -> i32 {
     let descriptors = [3, 4, 5, 6, 7, 8, 9, 10, 11, 12, 13, 14, 15, 16, 17, 18];
     if first == FIRST_VOICE {
-        return descriptors[num::least(n, CHIP_VOICES - 1)];
+        return descriptors[n.min(CHIP_VOICES - 1)];
     }
     first
 }
@@ -98,7 +102,11 @@ fn put_head(
 ) -> bool {
     let mut text = [0u8; wav::HEADER];
     let size = bytes_of(channels, frames);
-    wav::put_header(&mut text, 0, channels, SAMPLE_RATE as u32, BITS, size);
+    let mut out = Output {
+        buffer: &mut text,
+        at: 0,
+    };
+    wav::put_header(&mut out, channels, SAMPLE_RATE as u32, BITS, size);
     match place {
         Some(at) => put_again(rt, descriptor, at, &text),
         None => io::write_all(descriptor, &text),

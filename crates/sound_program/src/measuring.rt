@@ -2,6 +2,7 @@
 // of the right one, and the peak of each of core 0's eight voices.
 use crate::{FRAMES, Level, Run, State};
 use levels::SideLevel;
+use output::Output;
 use program::STDOUT;
 use sizes::STEMS;
 
@@ -12,8 +13,8 @@ impl Level {
     pub(crate) fn none() -> Level {
         Level {
             frames: 0,
-            left: SideLevel::silent(),
-            right: SideLevel::silent(),
+            left: SideLevel::default(),
+            right: SideLevel::default(),
             voices: [0; 8],
         }
     }
@@ -31,7 +32,7 @@ impl Level {
         let second = self.right;
         let voices = self.voices;
         Level {
-            frames: num::least(self.frames, TENTH) + num::least(left.len(), FRAMES),
+            frames: self.frames.min(TENTH) + left.len().min(FRAMES),
             left: first.with_frames(left),
             right: second.with_frames(right),
             voices: voice_peaks(voices, stems),
@@ -42,7 +43,7 @@ impl Level {
     fn with_stems(self, stems: &[i16], others: &[i16]) -> Level {
         let mut left = [0i32; FRAMES];
         let mut right = [0i32; FRAMES];
-        let n = num::least(stems.len() / STEMS, FRAMES);
+        let n = (stems.len() / STEMS).min(FRAMES);
         self.with_sides(stems, others, &mut left[..n], &mut right[..n])
     }
 }
@@ -50,8 +51,8 @@ impl Level {
 // The largest sample of each voice of core 0.
 fn voice_peaks(before: [u32; 8], stems: &[i16]) -> [u32; 8] {
     let mut voices = before;
-    for channel in 0..8 {
-        voices[channel] = levels::voice_peak(voices[channel], stems, channel);
+    for (channel, peak) in voices.iter_mut().enumerate() {
+        *peak = levels::voice_peak(*peak, stems, channel);
     }
     voices
 }
@@ -78,9 +79,14 @@ fn print_level(level: Level, out: &mut [u8]) -> bool {
         voices[6] as u64,
         voices[7] as u64,
     ];
-    let letter = decimal::put_byte(&mut *out, 0, 76);
-    let fields = sqv4_text::put_fields(&mut *out, letter, &numbers);
-    let end = decimal::put_byte(&mut *out, fields, 10);
+    let mut line = Output {
+        buffer: &mut *out,
+        at: 0,
+    };
+    line.put_byte(b'L');
+    sqv4_text::put_fields(&mut line, &numbers);
+    line.put_byte(10);
+    let end = line.at;
     crate::sounds::written(STDOUT, out, end)
 }
 
@@ -118,9 +124,9 @@ fn with_part(run: Run, stems: &[i16], others: &[i16], out: &mut [u8]) -> Run {
 // A run after the frames of its last lines: those that fit the tenth, and those behind them.
 pub(crate) fn measured(run: Run, stems: &[i16], others: &[i16], out: &mut [u8]) -> Run {
     let level = run.level;
-    let room = STEMS * (TENTH - num::least(level.frames, TENTH));
-    let end = num::least(room, stems.len());
-    let other = num::least(room, others.len());
+    let room = STEMS * (TENTH - level.frames.min(TENTH));
+    let end = room.min(stems.len());
+    let other = room.min(others.len());
     let next = with_part(run, &stems[..end], &others[..other], &mut *out);
     if end < stems.len() {
         if next.state == State::Going {

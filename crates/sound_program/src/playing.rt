@@ -5,6 +5,7 @@ use crate::{FRAMES, Level, Run, Sound, State};
 use log_lines::LineFault;
 use log_player::Stop;
 use log_sound::Sounded;
+use output::Output;
 use s3w2::{Answer, Chip, Returned};
 use sizes::{SAMPLE_RATE, STEMS};
 use std::io::Read;
@@ -45,7 +46,12 @@ impl Run {
 // Says that the line which is next is bad, and why.
 fn bad(run: Run, why: LineFault) -> Run {
     let mut text = [0u8; 64];
-    let end = log_lines::put_bad(&mut text, 0, run.number, why.number());
+    let mut out = Output {
+        buffer: &mut text,
+        at: 0,
+    };
+    log_lines::put_bad(&mut out, run.number, why.number());
+    let end = out.at;
     program::say(num::part(&text, 0, end));
     run.stopped()
 }
@@ -131,9 +137,9 @@ fn framed(
     others: &[i16],
     out: &mut [u8],
 ) -> Run {
-    let end = STEMS * num::least(frames, FRAMES);
-    let a = num::least(end, stems.len());
-    let b = num::least(end, others.len());
+    let end = STEMS * frames.min(FRAMES);
+    let a = end.min(stems.len());
+    let b = end.min(others.len());
     sounded(sound, run, &stems[..a], &others[..b], out)
 }
 

@@ -4,6 +4,7 @@ ghost use Rattle.std.specs.Prelude.{◌≤◌};
 use crate::files::{FIRST_VOICE, complain, of_voice};
 use crate::measuring::measured;
 use crate::{FRAMES, Run, Sound};
+use output::Output;
 use program::STDOUT;
 use sizes::{NUM_CHANNELS, STEMS};
 
@@ -25,27 +26,33 @@ fn mix_by(
     out: &mut [u8],
 ) -> bool {
     sides::add(stems, others, &mut *left, &mut *right, 0);
-    let end = wav::put_sides(&mut *out, 0, left, right);
+    let mut bytes = Output {
+        buffer: &mut *out,
+        at: 0,
+    };
+    wav::put_sides(&mut bytes, left, right);
+    let end = bytes.at;
     written(STDOUT, out, end)
 }
 
 fn mix(stems: &[i16], others: &[i16], out: &mut [u8]) -> bool {
     let mut left = [0i16; FRAMES];
     let mut right = [0i16; FRAMES];
-    let n = num::least(stems.len() / STEMS, FRAMES);
+    let n = (stems.len() / STEMS).min(FRAMES);
     mix_by(stems, others, &mut left[..n], &mut right[..n], out)
 }
 
 // Each frame's stems, core 0's and then core 1's.
 fn all_stems(stems: &[i16], others: &[i16], out: &mut [u8]) -> bool {
-    let frames = num::least(stems.len(), others.len()) / STEMS;
-    let mut end = 0;
-    for i in 0..frames {
-        let from = STEMS * i;
-        let to = from + STEMS;
-        let middle = wav::put_samples(&mut *out, end, &stems[from..to]);
-        end = wav::put_samples(&mut *out, middle, &others[from..to]);
+    let mut bytes = Output {
+        buffer: &mut *out,
+        at: 0,
+    };
+    for (one, other) in stems.chunks_exact(STEMS).zip(others.chunks_exact(STEMS)) {
+        wav::put_samples(&mut bytes, one);
+        wav::put_samples(&mut bytes, other);
     }
+    let end = bytes.at;
     written(STDOUT, out, end)
 }
 
@@ -54,7 +61,12 @@ fn voices(first: usize, stems: &[i16], out: &mut [u8]) -> bool
     requires { first ≤ 8 }
 {
     for channel in 0..NUM_CHANNELS {
-        let end = wav::put_channel(&mut *out, 0, stems, channel);
+        let mut bytes = Output {
+            buffer: &mut *out,
+            at: 0,
+        };
+        wav::put_channel(&mut bytes, stems, channel);
+        let end = bytes.at;
         if !written(of_voice(FIRST_VOICE, first + channel), &*out, end) {
             return false;
         }

@@ -26,23 +26,13 @@ fn has_magic(file: &[u8]) -> bool
     file.starts_with(&MAGIC)
 }
 
-fn wide(x: u8) -> usize
-    ensures result { result ≡ x }
-    ensures upper_bound { result < 256 }
-{
-    x as usize
-}
-
 // A number of four bytes, the first lowest.
 fn number(file: &[u8], at: usize) -> usize
     requires { at + 4 ≤ length file.now }
     ensures result { result ≡ le (part file.now at 4) }
     ensures upper_bound { result < 2 ^ 32 }
 {
-    wide(file[at])
-        + 256 * wide(file[at + 1])
-        + 65536 * wide(file[at + 2])
-        + 16777216 * wide(file[at + 3])
+    u32::from_le_bytes([file[at], file[at + 1], file[at + 2], file[at + 3]]) as usize
 }
 
 pub(crate) fn prefix_of(version: u8) -> usize
@@ -93,7 +83,7 @@ pub(crate) fn frame_length(header: Header, frame: usize) -> usize
     if samples <= first {
         return 0;
     }
-    num::least(samples - first, per)
+    per.min(samples - first)
 }
 
 // No byte but 0 from a place on.

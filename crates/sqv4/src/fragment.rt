@@ -33,6 +33,7 @@ fn sound(version: u8, predictor: i16, volume: u8) -> i16
 }
 
 // A run of codes: the samples go to their places, and the state after them comes back.
+// Kept as it is: a struct of version, variant and state would be made at each call and taken apart for crate adpcm, which takes the three apart.
 fn decode_codes(
     version: u8,
     variant: Variant,
@@ -55,7 +56,7 @@ fn decode_codes(
     let mut state = start;
     let mut at = places.at;
     for i in 0..count {
-        let index = num::least(state.index, 88);
+        let index = state.index.min(88);
         state = adpcm::decode_at(
             version,
             variant,
@@ -78,7 +79,7 @@ fn begin(version: u8, state: State, index: u8) -> State
     }
     State {
         predictor: 0,
-        index: num::least(index as usize, 88),
+        index: (index as usize).min(88),
     }
 }
 
@@ -109,8 +110,7 @@ fn codes_in(variant: Variant, bytes: usize) -> usize
 {
     match variant {
         Variant::H => 2 * bytes,
-        Variant::L => 2 * bytes + 2 * bytes / 3,
-        Variant::LPlus => 2 * bytes + 2 * bytes / 3,
+        Variant::L | Variant::LPlus => 2 * bytes + 2 * bytes / 3,
     }
 }
 
@@ -119,9 +119,10 @@ fn reach(version: u8, variant: Variant, fragment: &[u8], wanted: usize) -> usize
     requires { wanted < 2 ^ 62 }
     ensures { result ≡ reached version variant fragment.now wanted }
 {
-    let prefix = num::least(fragment.len(), crate::check::prefix_of(version));
-    let bytes = num::least(fragment.len() - prefix, wanted);
-    num::least(wanted, codes_in(variant, bytes))
+    let bytes = fragment
+        .len()
+        .saturating_sub(crate::check::prefix_of(version));
+    wanted.min(codes_in(variant, bytes.min(wanted)))
 }
 
 // The first samples of a version 3 fragment, as far as its codes and the buffer reach.

@@ -8,6 +8,7 @@
 ghost use Rattle.std.specs.Prelude.{◌≤◌};
 
 use adpcm::{State, Variant};
+use output::Output;
 
 // The descriptors of standard input and standard output.
 const STDIN: i32 = 0;
@@ -22,21 +23,17 @@ struct Given {
 }
 
 // Number k of a call.
-fn number(call: &[u8], k: usize) -> usize
+fn number(call: &[u8; 256], k: usize) -> usize
     requires { k ≤ 7 }
 {
-    let mut n: usize = 0;
-    for i in (0..8).rev() {
-        n = (n << 8) | (num::byte_at(call, 8 * k + i) as usize);
-    }
-    n
+    usize::from_le_bytes(call.as_chunks::<8>().0[k])
 }
 
-fn variant_of(call: &[u8]) -> Variant {
+fn variant_of(call: &[u8; 256]) -> Variant {
     Variant::try_from(num::byte_at(call, 16)).unwrap_or(Variant::H)
 }
 
-fn state_of(call: &[u8]) -> State {
+fn state_of(call: &[u8; 256]) -> State {
     let bits = (number(call, 3) % 65536) as u16;
     State {
         predictor: num::signed16(bits),
@@ -52,11 +49,11 @@ fn numbers_of(state: State) -> Given {
 }
 
 // Makes the call.
-fn answer(call: &[u8], out: &mut [i16]) -> Given {
+fn answer(call: &[u8; 256], out: &mut [i16]) -> Given {
     let version = num::byte_at(call, 8);
     let variant = variant_of(call);
     let state = state_of(call);
-    let slice = num::part(call, 64, 64 + num::least(number(call, 6), 192));
+    let slice = num::part(call, 64, 64 + number(call, 6).min(192));
     match num::byte_at(call, 0) {
         0 => Given {
             first: adpcm::unpack_code(slice, number(call, 3), number(call, 4)) as u64,
@@ -72,24 +69,29 @@ fn answer(call: &[u8], out: &mut [i16]) -> Given {
 }
 
 // Writes what a call gives, and the samples of its buffer.
-fn tell(call: &[u8], out: &mut [i16], text: &mut [u8]) {
+fn tell(call: &[u8; 256], out: &mut [i16], text: &mut [u8]) {
     let found = answer(call, out);
     let values = [found.first, found.second];
-    let fields = sqv4_text::put_fields(text, 0, &values);
-    let line = decimal::put_byte(text, fields, 10);
-    let end = sqv4_text::put_samples(text, line, out);
+    let mut line = Output {
+        buffer: &mut *text,
+        at: 0,
+    };
+    sqv4_text::put_fields(&mut line, &values);
+    line.put_byte(10);
+    sqv4_text::put_samples(&mut line, out);
+    let end = line.at;
     io::write_all(STDOUT, num::part(text, 0, end));
 }
 
 // Answers a call, over a buffer that held 12,345 everywhere.
-fn print(call: &[u8]) {
+fn print(call: &[u8; 256]) {
     let mut out = [12345i16; 128];
     let mut text = [0u8; 1024];
-    let count = num::least(number(call, 7), 128);
+    let count = number(call, 7).min(128);
     tell(call, &mut out[..count], &mut text);
 }
 
-fn print_all(call: &mut [u8]) {
+fn print_all(call: &mut [u8; 256]) {
     for _ in 0..u64::MAX {
         if io::read_full(STDIN, &mut *call) < 256 {
             return;

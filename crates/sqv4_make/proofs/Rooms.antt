@@ -1,5 +1,5 @@
 -- The buffers: a file that has room leaves room for its samples; a whole input has a line. Assumes nothing.
-use Rattle.std.proofs.Common.{◌≡◌, ℕ, ◌≤◌, Bool, true, false, cond, eqb, ltb, List, length, take, ℤ, sym, ap, ap₂, arith, length-take-le, ltb-true, eq-eqb, ne_eqb, Ok}
+use Rattle.std.proofs.Common.{◌≡◌, ℕ, ◌≤◌, Bool, true, false, cond, eqb, ltb, List, length, take, ℤ, sym, ap₂, arith, length-take-le, ltb-true, Ok}
 use Rattle.num.proofs.Choice.{never}
 use Rattle.adpcm.specs.declared.Variant.{Variant}
 use Rattle.adpcm.specs.declared.Variant.TheVariants.{H, L, LPlus}
@@ -29,17 +29,3 @@ some-lines m e = go m.good (eqb m.filled 0) e
     go true true h = ltb-true 0 m.lines h
     go true false h = never (sym h)
     go false b h = never (sym h)
-
--- ---- the tests of a whole input, one after the other
-module _ (m : Progress) where
-  pub whole-then : m.good ≡ true → m.filled ≡ 0 → ltb 0 m.lines ≡ is_whole m
-  unfolding is_whole
-  whole-then g e = sym (ap₂ (λ (a b : Bool). cond a (cond b (ltb 0 m.lines) false) false) g (eq-eqb m.filled 0 e))
-
-  pub not-filled : m.good ≡ true → (m.filled ≡ 0 → ⊥) → false ≡ is_whole m
-  unfolding is_whole
-  not-filled g e = sym (ap₂ (λ (a b : Bool). cond a (cond b (ltb 0 m.lines) false) false) g (ne_eqb m.filled 0 e))
-
-  pub not_good : m.good ≡ false → false ≡ is_whole m
-  unfolding is_whole
-  not_good g = sym (ap (λ (a : Bool). cond a (cond (eqb m.filled 0) (ltb 0 m.lines) false) false) g)

@@ -7,6 +7,7 @@ use adpcm::Variant;
 use sqv4_writer::Terms;
 
 // The numeral at a place, of a number that is at most `most`, and the place behind it.
+#[tactic(auto, unfolding(crate::specs::Lines::numeral_at))]
 fn field(line: &[u8], at: usize, most: u32) -> Option<(u32, usize)>
     ensures { (result ≡ numeral_at line.now at most) × Within most result }
 {
@@ -18,6 +19,7 @@ fn field(line: &[u8], at: usize, most: u32) -> Option<(u32, usize)>
 }
 
 // The same behind a comma.
+#[tactic(auto, unfolding(crate::specs::Lines::behind_comma))]
 fn behind_comma(line: &[u8], at: usize, most: u32) -> Option<(u32, usize)>
     ensures { (result ≡ behind_comma line.now at most) × Within most result }
 {
@@ -41,6 +43,7 @@ fn saying(number: u8, rate: u32, volume: u8, index: u8) -> Option<Terms>
 }
 
 // The volume and the step index, each behind a comma, to the line's end.
+#[tactic(auto, unfolding(crate::specs::Lines::levels_at))]
 fn levels(line: &[u8], at: usize, number: u8, rate: u32) -> Option<Terms>
     ensures { result ≡ levels_at line.now at number rate }
 {
@@ -53,6 +56,7 @@ fn levels(line: &[u8], at: usize, number: u8, rate: u32) -> Option<Terms>
 }
 
 // `variant,rate,volume,index`
+#[tactic(auto, unfolding(crate::specs::Lines::first_line))]
 pub(crate) fn first_line(line: &[u8]) -> Option<Terms>
     ensures { result ≡ first_line line.now }
 {
@@ -62,6 +66,7 @@ pub(crate) fn first_line(line: &[u8]) -> Option<Terms>
 }
 
 // A sample, as sqv4-dump prints it.
+#[tactic(auto, unfolding(crate::specs::Lines::sample_line))]
 pub(crate) fn sample_line(line: &[u8]) -> Option<i16>
     ensures { result ≡ sample_line line.now }
 {
@@ -69,11 +74,5 @@ pub(crate) fn sample_line(line: &[u8]) -> Option<i16>
     if next != line.len() {
         return None;
     }
-    if value < -32768 {
-        return None;
-    }
-    if 32767 < value {
-        return None;
-    }
-    Some(value as i16)
+    i16::try_from(value).ok()
 }

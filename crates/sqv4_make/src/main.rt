@@ -14,7 +14,7 @@ use sqv4_writer::Terms;
 
 // The input as far as it was read: the bytes of the line that is not ended yet, the whole lines before it, what the first of them
 // says, and whether all were such lines.
-// Kept as it is: there is no heap, so the line is a buffer of the longest one with its length beside it.
+// Kept as it is: there is no heap, and of an ArrayVec only its items are known, so the definitions could not give the whole state.
 #[derive(Clone, Copy)]
 pub(crate) struct Progress {
     pub line: [u8; 20],

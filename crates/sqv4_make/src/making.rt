@@ -86,6 +86,7 @@ fn store_sample(samples: &mut [i16], at: usize, found: Option<i16>)
 }
 
 // A byte of a line.
+#[tactic(auto, unfolding(crate::specs::Making::kept_of))]
 fn kept(mut making: Progress, byte: u8) -> Progress
     ensures { result ≡ kept_of making byte }
 {
@@ -101,12 +102,13 @@ fn kept(mut making: Progress, byte: u8) -> Progress
 }
 
 // A line is whole.
+#[tactic(auto, unfolding(crate::specs::Making::ended_of, crate::specs::Making::samples_ended))]
 fn ended(making: Progress, samples: &mut [i16]) -> Progress
     ensures result { result ≡ ended_of making }
     ensures samples { samples.new ≡ samples_ended making samples.old }
 {
     let line = making.line;
-    let filled = num::least(making.filled, LINE_SIZE);
+    let filled = making.filled.min(LINE_SIZE);
     let lines = making.lines;
     if lines == 0 {
         return headed(making, first_line(&line[..filled]));
@@ -117,6 +119,7 @@ fn ended(making: Progress, samples: &mut [i16]) -> Progress
 }
 
 // One byte more.
+#[tactic(auto, unfolding(crate::specs::Making::step_of, crate::specs::Making::samples_step))]
 fn step(making: Progress, byte: u8, samples: &mut [i16]) -> Progress
     ensures result { result ≡ step_of making byte }
     ensures samples { samples.new ≡ samples_step making byte samples.old }
@@ -143,6 +146,7 @@ pub(crate) fn feed(first: Progress, bytes: &[u8], samples: &mut [i16]) -> Progre
 }
 
 // Whether the input could end here: the first line is there, and the last line is whole.
+#[tactic(auto, unfolding(crate::specs::Making::is_whole))]
 pub(crate) fn is_whole(making: Progress) -> bool
     ensures { result ≡ is_whole making }
 {

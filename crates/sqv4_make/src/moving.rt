@@ -5,6 +5,7 @@ ghost use Rattle.sqv4_make.specs.Making.{most_samples, most_bytes};
 use crate::Progress;
 use crate::making::{begun, feed, is_whole, make};
 use log_lines::LineFault;
+use output::Output;
 use sqv4_writer::StreamError;
 use std::io::Read;
 
@@ -27,21 +28,27 @@ fn write(bytes: &[u8]) {
 // `bad`, the number of the line behind those that were whole, 17.
 fn write_bad(making: Progress) {
     let mut text = [0u8; 32];
-    let end = log_lines::put_bad(
-        &mut text,
-        0,
-        making.lines.wrapping_add(1),
-        LineFault::Malformed.number(),
-    );
+    let mut out = Output {
+        buffer: &mut text,
+        at: 0,
+    };
+    let line = making.lines.wrapping_add(1);
+    log_lines::put_bad(&mut out, line, LineFault::Malformed.number());
+    let end = out.at;
     write(num::part(&text, 0, end));
 }
 
 // `refused` and the number.
 fn write_refused(error: StreamError) {
     let mut text = [0u8; 32];
-    let word = decimal::put_text(&mut text, 0, b"refused,");
-    let number = decimal::put_natural(&mut text, word, error.number() as u64);
-    let end = decimal::put_byte(&mut text, number, 10);
+    let mut out = Output {
+        buffer: &mut text,
+        at: 0,
+    };
+    out.put_bytes(b"refused,");
+    decimal::put_natural(&mut out, error.number() as u64);
+    out.put_byte(10);
+    let end = out.at;
     write(num::part(&text, 0, end));
 }
 
@@ -59,14 +66,6 @@ fn finish(making: Progress, samples: &[i16], file: &mut [u8])
     }
 }
 
-// Whether more is to be read, after n bytes.
-fn goes_on(n: usize, good: bool) -> bool {
-    if n == 0 {
-        return false;
-    }
-    good
-}
-
 // Reads and feeds until the input ends or a line is none, and writes what is made of it. A read that a signal interrupts has failed.
 pub(crate) fn run(rt: &HostRuntime, input: &mut [u8], samples: &mut [i16], file: &mut [u8])
     requires { (length samples.old ≡ most_samples) × (length file.old ≡ most_bytes) }
@@ -78,7 +77,7 @@ pub(crate) fn run(rt: &HostRuntime, input: &mut [u8], samples: &mut [i16], file:
             return;
         };
         making = feed(making, num::part(&*input, 0, n), &mut *samples);
-        if !goes_on(n, making.good) {
+        if n == 0 || !making.good {
             break;
         }
     }

@@ -1,36 +1,28 @@
 -- The texts of numbers and samples, one more at a time. Assumes nothing.
-use Rattle.std.proofs.Common.{◌≡◌, ℕ, ◌+◌, ◌<◌, ◌≤◌, min, List, [], ◌∷◌, ◌++◌, length, get_or, take, ℤ, pos, take_all, Result}
-use Rattle.decimal.specs.Written.{Put, decimal, render}
-use Rattle.decimal.proofs.Writing.{put-append, put-none, put-each}
-use Rattle.sqv4.specs.declared.InspectError.{InspectError}
-use Rattle.sqv4.specs.declared.Header.{Header}
-use Rattle.sqv4_text.specs.Lines.{fields, lines, word_of, values_of, answer_line}
+use Rattle.std.proofs.Common.{◌≡◌, ℕ, ◌+◌, ◌<◌, min, List, [], ◌∷◌, ◌++◌, length, get_or, take, ℤ, pos, arith, ◌≤◌}
+use Rattle.decimal.specs.Written.{decimal, render}
+use Rattle.decimal.proofs.Writing.{puts-each}
+use Rattle.output.specs.declared.Output.{Output}
+use Rattle.output.specs.Output.{Put, Puts}
+use Rattle.output.proofs.Writing.{puts-append, put-none, put-long}
+use Rattle.sqv4_text.specs.Lines.{fields, lines}
 
 pub fields-none : (l vs : List ℕ) (at e : ℕ) → e ≡ min at (length l) → Put l l at (fields (take 0 vs)) e
 unfolding fields
 fields-none l vs at e h = put-none l at e h
 
-pub fields-next : (l m n k vs : List ℕ) (at e c r i : ℕ) → i < length vs → Put l m at (fields (take i vs)) e → Put m n e (44 ∷ []) c → Put n k c (decimal (get_or vs i 0)) r → Put l k at (fields (take (i + 1) vs)) r
+pub fields-next : (s t u v : Output) (vs : List ℕ) (i : ℕ) → i < length vs → Puts s t (fields (take i vs)) → Puts t u (44 ∷ []) → Puts u v (decimal (get_or vs i 0)) → Puts s v (fields (take (i + 1) vs))
 unfolding fields
-fields-next l m n k vs at e c r i h p q s =
-    put-each (λ (x : ℕ). 44 ∷ decimal x) 0 l m k vs at e r i h p (put-append m n k e c r (44 ∷ []) (decimal (get_or vs i 0)) q s)
-
-pub fields-all : (l m vs : List ℕ) (at e i : ℕ) → length vs ≤ i → Put l m at (fields (take i vs)) e → Put l m at (fields vs) e
-fields-all l m vs at e i h p = rw (take_all i vs h) at p
+fields-next s t u v vs i h p q r = puts-each (λ (x : ℕ). 44 ∷ decimal x) 0 s t v vs i h p (puts-append t u v (44 ∷ []) (decimal (get_or vs i 0)) q r)
 
 pub lines_none : (l : List ℕ) (zs : List ℤ) (at e : ℕ) → e ≡ min at (length l) → Put l l at (lines (take 0 zs)) e
 unfolding lines
 lines_none l zs at e h = put-none l at e h
 
-pub lines_next : (l m n k : List ℕ) (zs : List ℤ) (at e c r i : ℕ) → i < length zs → Put l m at (lines (take i zs)) e → Put m n e (render (get_or zs i (pos 0))) c → Put n k c (10 ∷ []) r → Put l k at (lines (take (i + 1) zs)) r
+pub lines_next : (s t u v : Output) (zs : List ℤ) (i : ℕ) → i < length zs → Puts s t (lines (take i zs)) → Puts t u (render (get_or zs i (pos 0))) → Puts u v (10 ∷ []) → Puts s v (lines (take (i + 1) zs))
 unfolding lines
-lines_next l m n k zs at e c r i h p q s =
-    put-each (λ (z : ℤ). render z ++ (10 ∷ [])) (pos 0) l m k zs at e r i h p (put-append m n k e c r (render (get_or zs i (pos 0))) (10 ∷ []) q s)
+lines_next s t u v zs i h p q r = puts-each (λ (z : ℤ). render z ++ (10 ∷ [])) (pos 0) s t v zs i h p (puts-append t u v (render (get_or zs i (pos 0))) (10 ∷ []) q r)
 
-pub lines-all : (l m : List ℕ) (zs : List ℤ) (at e i : ℕ) → length zs ≤ i → Put l m at (lines (take i zs)) e → Put l m at (lines zs) e
-lines-all l m zs at e i h p = rw (take_all i zs h) at p
-
-pub answer-put : (l m n k vs : List ℕ) (found : Result Header InspectError) (at w e r : ℕ) → Put l m at (word_of found) w → vs ≡ values_of found → Put m n w (fields vs) e → Put n k e (10 ∷ []) r → Put l k at (answer_line found) r
-unfolding answer_line
-answer-put l m n k vs found at w e r p v q s =
-    put-append l m k at w r (word_of found) (fields (values_of found) ++ (10 ∷ [])) p (put-append m n k w e r (fields (values_of found)) (10 ∷ []) (rw v at q) s)
+-- what is written ends within the buffer
+pub puts-inside : (s t : Output) (text : List ℕ) → Puts s t text → t.at ≤ length t.buffer.now
+puts-inside s t text p = omega (arith, p.put.0, put-long s.buffer.now t.buffer.now s.at t.at text p.put)

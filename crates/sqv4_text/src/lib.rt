@@ -2,13 +2,14 @@
 #![tactic(auto)]
 
 ghost use Rattle.std.specs.Prelude.{◌≡◌, ◌<◌, ◌≤◌, [], ◌∷◌, length};
-ghost use Rattle.decimal.specs.Written.{Put};
+ghost use Rattle.output.specs.Output.{Puts};
 ghost use Rattle.sqv4.specs.Files.{error_number};
 ghost use Rattle.sqv4_text.specs.Lines.{header_values, values_of, samples_in, fields, lines, word_of, answer_line};
 
 mod pieces;
 mod windows;
 
+use output::Output;
 use program::STDIN;
 use sqv4::{Header, InspectError};
 use std::fs::File;
@@ -32,27 +33,24 @@ fn sample_count(found: Result<Header, InspectError>) -> usize
     ensures { result ≡ samples_in found }
 {
     match found {
-        Ok(header) => {
-            num::least(header.samples_per_channel, 0xffff_ffff) * (header.channels as usize)
-        }
+        Ok(header) => { header.samples_per_channel.min(0xffff_ffff) * (header.channels as usize) }
         Err(_) => 0,
     }
 }
 
-// Puts each number into out, after a comma.
-pub fn put_fields(out: &mut [u8], at: usize, values: &[u64]) -> usize
-    ensures { Put out.old out.new at (fields values.now) result }
+// Puts each number after a comma.
+pub fn put_fields(out: &mut Output<'_>, values: &[u64])
+    ensures { Puts out.old out.new (fields values.now) }
 {
-    let mut end = num::least(at, out.len());
-    for value in values {
-        let comma = decimal::put_byte(out, end, 44);
-        end = decimal::put_natural(out, comma, *value);
+    out.at = out.at.min(out.buffer.len());
+    for &value in values {
+        out.put_byte(44);
+        decimal::put_natural(&mut *out, value);
     }
-    end
 }
 
-fn put_header(out: &mut [u8], at: usize, header: Header) -> usize
-    ensures { Put out.old out.new at (fields (header_values header)) result }
+fn put_header(out: &mut Output<'_>, header: Header)
+    ensures { Puts out.old out.new (fields (header_values header)) }
 {
     let variant = header.variant;
     let values = [
@@ -62,89 +60,95 @@ fn put_header(out: &mut [u8], at: usize, header: Header) -> usize
         header.sample_rate as u64,
         header.samples_per_channel as u64,
     ];
-    put_fields(out, at, &values)
+    put_fields(out, &values);
 }
 
 // The number of a refusal, with its values.
-fn put_error(out: &mut [u8], at: usize, error: InspectError) -> usize
-    ensures { Put out.old out.new at (fields (error_number error)) result }
+fn put_error(out: &mut Output<'_>, error: InspectError)
+    ensures { Puts out.old out.new (fields (error_number error)) }
 {
     match error {
-        InspectError::TruncatedHeader => put_fields(out, at, &[4]),
-        InspectError::InvalidMagic => put_fields(out, at, &[5]),
-        InspectError::UnsupportedVersion(value) => put_fields(out, at, &[6, value as u64]),
-        InspectError::InvalidVariant(value) => put_fields(out, at, &[7, value as u64]),
-        InspectError::InvalidChannels(value) => put_fields(out, at, &[8, value as u64]),
-        InspectError::InvalidReservedByte(value) => put_fields(out, at, &[9, value as u64]),
-        InspectError::ZeroSampleRate => put_fields(out, at, &[10]),
+        InspectError::TruncatedHeader => put_fields(out, &[4]),
+        InspectError::InvalidMagic => put_fields(out, &[5]),
+        InspectError::UnsupportedVersion(value) => put_fields(out, &[6, value as u64]),
+        InspectError::InvalidVariant(value) => put_fields(out, &[7, value as u64]),
+        InspectError::InvalidChannels(value) => put_fields(out, &[8, value as u64]),
+        InspectError::InvalidReservedByte(value) => put_fields(out, &[9, value as u64]),
+        InspectError::ZeroSampleRate => put_fields(out, &[10]),
         InspectError::InvalidFileLength { expected, actual } => {
-            put_fields(out, at, &[11, expected as u64, actual as u64])
+            put_fields(out, &[11, expected as u64, actual as u64])
         }
-        InspectError::InvalidStepIndex(index) => put_fields(out, at, &[12, index as u64]),
-        InspectError::NonZeroPadding => put_fields(out, at, &[13]),
+        InspectError::InvalidStepIndex(index) => put_fields(out, &[12, index as u64]),
+        InspectError::NonZeroPadding => put_fields(out, &[13]),
     }
 }
 
 // The number of a refusal with its values, or what the header says, each after a comma.
-fn put_values(out: &mut [u8], at: usize, found: Result<Header, InspectError>) -> usize
-    ensures { Put out.old out.new at (fields (values_of found)) result }
+fn put_values(out: &mut Output<'_>, found: Result<Header, InspectError>)
+    ensures { Puts out.old out.new (fields (values_of found)) }
 {
     match found {
-        Ok(header) => put_header(out, at, header),
-        Err(error) => put_error(out, at, error),
+        Ok(header) => put_header(out, header),
+        Err(error) => put_error(out, error),
     }
 }
 
-// Puts each sample into out, on a line of its own.
-pub fn put_samples(out: &mut [u8], at: usize, samples: &[i16]) -> usize
-    ensures { Put out.old out.new at (lines samples.now) result }
+// Puts each sample on a line of its own.
+pub fn put_samples(out: &mut Output<'_>, samples: &[i16])
+    ensures { Puts out.old out.new (lines samples.now) }
 {
-    let mut end = num::least(at, out.len());
-    for sample in samples {
-        let behind = decimal::put_number(out, end, *sample as i64);
-        end = decimal::put_byte(out, behind, 10);
+    out.at = out.at.min(out.buffer.len());
+    for &sample in samples {
+        decimal::put_number(&mut *out, sample as i64);
+        out.put_byte(10);
     }
-    end
 }
 
-fn put_word(out: &mut [u8], at: usize, found: Result<Header, InspectError>) -> usize
-    ensures { Put out.old out.new at (word_of found) result }
+fn put_word(out: &mut Output<'_>, found: Result<Header, InspectError>)
+    ensures { Puts out.old out.new (word_of found) }
 {
     match found {
-        Ok(_) => decimal::put_text(out, at, b"file"),
-        Err(_) => decimal::put_text(out, at, b"refused"),
+        Ok(_) => out.put_bytes(b"file"),
+        Err(_) => out.put_bytes(b"refused"),
     }
 }
 
-// Puts the line of the check's answer into out from `at` on, as far as there is room, and answers the place behind it, at most out's end.
-fn put_answer(out: &mut [u8], at: usize, found: Result<Header, InspectError>) -> usize
-    ensures { Put out.old out.new at (answer_line found) result }
+// Puts the line of the check's answer.
+fn put_answer(out: &mut Output<'_>, found: Result<Header, InspectError>)
+    ensures { Puts out.old out.new (answer_line found) }
 {
-    let word = put_word(out, at, found);
-    let end = put_values(out, word, found);
-    decimal::put_byte(out, end, 10)
+    put_word(&mut *out, found);
+    put_values(&mut *out, found);
+    out.put_byte(10);
 }
 
-fn print_samples(samples: &[i16], text: &mut [u8], at: usize) -> usize
-    ensures { result ≤ length text.new }
+// Writes what is put, where there is not so much room behind it.
+fn make_room(text: &mut Output<'_>, room: usize)
+    ensures { text.new.at ≤ length text.new.buffer.now }
 {
-    let mut end = at;
+    let at = text.at;
+    text.at = program::flush(&*text.buffer, at, room);
+}
+
+fn print_samples(samples: &[i16], text: &mut Output<'_>)
+    requires { text.old.at ≤ length text.old.buffer.now }
+    ensures { text.new.at ≤ length text.new.buffer.now }
+{
     for chunk in samples.chunks(4096) {
-        let start = program::flush(text, end, 32768);
-        end = put_samples(text, start, chunk);
+        make_room(&mut *text, 32768);
+        put_samples(&mut *text, chunk);
     }
-    num::least(end, text.len())
 }
 
-// Prints what a file is, by way of the lent buffers. What is printed last may still stand in the text, before the place that comes back.
-fn print_file(file: &[u8], samples: &mut [i16], text: &mut [u8], at: usize) -> usize
-    ensures { result ≤ length text.new }
+// Prints what a file is, by way of the lent buffers. What is printed last may still stand in the text.
+fn print_file(file: &[u8], samples: &mut [i16], text: &mut Output<'_>)
+    ensures { text.new.at ≤ length text.new.buffer.now }
 {
-    let start = program::flush(text, at, 128);
+    make_room(&mut *text, 128);
     let found = sqv4::decode(file, samples);
-    let end = put_answer(text, start, found);
-    let count = num::least(sample_count(found), samples.len());
-    print_samples(&samples[..count], text, end)
+    put_answer(&mut *text, found);
+    let count = sample_count(found).min(samples.len());
+    print_samples(&samples[..count], text);
 }
 
 // The number of four bytes, the first lowest.
@@ -180,43 +184,41 @@ fn read_next(file: &mut [u8]) -> Result<Option<usize>, BatchError> {
 }
 
 // Prints why nothing more is read.
-fn stop(text: &mut [u8], at: usize, reason: &[u8]) -> ControlFlow<usize, usize> {
-    let start = program::flush(text, at, 128);
-    ControlFlow::Break(decimal::put_text(text, start, reason))
+fn stop(text: &mut Output<'_>, reason: &[u8]) -> ControlFlow<()> {
+    make_room(&mut *text, 128);
+    text.put_bytes(reason);
+    ControlFlow::Break(())
 }
 
-// Reads the next file and prints what it is. The text ends at the place that comes back.
-fn print_next(
-    file: &mut [u8],
-    samples: &mut [i16],
-    text: &mut [u8],
-    at: usize,
-) -> ControlFlow<usize, usize> {
+// Reads the next file and prints what it is.
+fn print_next(file: &mut [u8], samples: &mut [i16], text: &mut Output<'_>) -> ControlFlow<()> {
     match read_next(&mut *file) {
         Ok(Some(length)) => {
-            ControlFlow::Continue(print_file(num::part(file, 0, length), samples, text, at))
+            print_file(num::part(file, 0, length), samples, text);
+            ControlFlow::Continue(())
         }
-        Ok(None) => ControlFlow::Break(at),
-        Err(BatchError::CutShort) => stop(text, at, b"cut short\n"),
-        Err(BatchError::TooLong) => stop(text, at, b"too long\n"),
+        Ok(None) => ControlFlow::Break(()),
+        Err(BatchError::CutShort) => stop(text, b"cut short\n"),
+        Err(BatchError::TooLong) => stop(text, b"too long\n"),
     }
 }
 
-// Prints what every file is, by way of the lent buffers, and answers where the text ends.
-fn print_files(file: &mut [u8], samples: &mut [i16], text: &mut [u8]) -> usize {
-    let mut end = 0;
+// Prints what every file is, by way of the lent buffers.
+fn print_files(file: &mut [u8], samples: &mut [i16], text: &mut Output<'_>) {
     for _ in 0..u64::MAX {
-        match print_next(file, samples, text, end) {
-            ControlFlow::Continue(at) => end = at,
-            ControlFlow::Break(at) => return at,
+        if print_next(&mut *file, &mut *samples, &mut *text).is_break() {
+            return;
         }
     }
-    end
 }
 
 fn print_all(file: &mut [u8], samples: &mut [i16], text: &mut [u8]) {
-    let end = print_files(file, samples, &mut *text);
-    program::flush(text, end, EVERYTHING);
+    let mut out = Output {
+        buffer: text,
+        at: 0,
+    };
+    print_files(file, samples, &mut out);
+    make_room(&mut out, EVERYTHING);
 }
 
 fn print_input(file: &mut [u8], samples: &mut [i16]) {
@@ -239,7 +241,7 @@ pub fn print_batch() {
 
 // Puts what the one file on standard input is, of which `length` bytes stand in the window. One that fills it is read window by
 // window, from the input that was opened again where it began.
-fn put_one(again: Option<File>, length: usize, window: &mut [u8], text: &mut [u8]) -> usize {
+fn put_one(again: Option<File>, length: usize, window: &mut [u8], text: &mut Output<'_>) {
     if length < window.len() {
         return pieces::print_file(num::part(window, 0, length), text);
     }
@@ -249,8 +251,12 @@ fn put_one(again: Option<File>, length: usize, window: &mut [u8], text: &mut [u8
 fn print_one(rt: &HostRuntime, window: &mut [u8], text: &mut [u8]) {
     let again = program::input_again(rt);
     let length = io::read_full(STDIN, &mut *window);
-    let end = put_one(again, length, window, &mut *text);
-    program::flush(text, end, EVERYTHING);
+    let mut out = Output {
+        buffer: text,
+        at: 0,
+    };
+    put_one(again, length, window, &mut out);
+    make_room(&mut out, EVERYTHING);
 }
 
 fn with_window(rt: &HostRuntime, window: &mut [u8]) {

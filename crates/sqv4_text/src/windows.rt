@@ -2,6 +2,7 @@
 // samples is the window's own, are a file by themselves: its check finds in them what the check of the whole finds there.
 use crate::LONGEST_READ;
 use crate::pieces::{Place, begun, print_pieces};
+use output::Output;
 use program::STDIN;
 use sqv4::{Header, InspectError};
 use std::fs::File;
@@ -22,33 +23,32 @@ struct Walk {
     place: Place,
 }
 
-// The input opened again, and the place where it began.
+// The input opened again, the place where it began, and the buffer that it is read into.
 #[derive(Drop)]
-struct Source {
+struct Source<'a> {
     file: File,
     begin: u64,
+    window: &'a mut [u8],
 }
 
-impl Source {
-    // A file that stands where the input began.
-    fn of(again: Option<File>) -> Option<Source> {
-        let mut file = again?;
-        let begin = file.stream_position().ok()?;
-        Some(Source { file, begin })
-    }
+// A file, and the place where it stands: where the input began.
+fn begun_at(again: Option<File>) -> Option<(File, u64)> {
+    let mut file = again?;
+    let begin = file.stream_position().ok()?;
+    Some((file, begin))
 }
 
 // Goes back to where the input began.
-fn again(source: &mut Source) {
+fn again(source: &mut Source<'_>) {
     let _ = source.file.seek(SeekFrom::Start(source.begin));
 }
 
 // The bytes of the input, of which some have been read, or some more than the longest file has.
 fn count_input(read: usize, window: &mut [u8]) -> usize {
-    let mut count = num::least(read, 65536);
+    let mut count = read.min(65536);
     // Kept as it is: no index is counted here; each turn goes on by as many bytes as were read.
     while count <= LONGEST_READ {
-        let got = num::least(io::read_full(STDIN, &mut *window), 65536);
+        let got = io::read_full(STDIN, &mut *window).min(65536);
         if got == 0 {
             return count;
         }
@@ -59,10 +59,11 @@ fn count_input(read: usize, window: &mut [u8]) -> usize {
 
 // Sets the number of samples of the header at the front of a window.
 fn put_count(window: &mut [u8], samples: usize) {
-    let first = decimal::put_byte(&mut *window, 12, (samples % 256) as u8);
-    let second = decimal::put_byte(&mut *window, first, (samples / 256 % 256) as u8);
-    let third = decimal::put_byte(&mut *window, second, (samples / 65536 % 256) as u8);
-    decimal::put_byte(window, third, (samples / 16777216 % 256) as u8);
+    let mut head = Output {
+        buffer: window,
+        at: 12,
+    };
+    head.put_bytes(&samples.to_le_bytes()[..4]);
 }
 
 // The number of samples that the header at the front of a window says.
@@ -76,25 +77,21 @@ fn count_of(window: &[u8]) -> usize {
 }
 
 // Reads the header.
-fn read_head(source: &mut Source, window: &mut [u8]) {
-    let end = num::least(HEAD, window.len());
-    program::read_full(&mut source.file, &mut window[..end]);
+fn read_head(source: &mut Source<'_>) {
+    let end = HEAD.min(source.window.len());
+    program::read_full(&mut source.file, &mut source.window[..end]);
 }
 
 // Reads bytes behind the header of a window, and answers where they end.
-fn read_window(source: &mut Source, window: &mut [u8], bytes: usize) -> usize {
-    let end = num::least(HEAD + num::least(bytes, 65536), window.len());
-    let start = num::least(HEAD, end);
-    start
-        + num::least(
-            program::read_full(&mut source.file, &mut window[start..end]),
-            65536,
-        )
+fn read_window(source: &mut Source<'_>, bytes: usize) -> usize {
+    let end = (HEAD + bytes.min(65536)).min(source.window.len());
+    let start = HEAD.min(end);
+    start + program::read_full(&mut source.file, &mut source.window[start..end]).min(65536)
 }
 
 // The bytes of the fragments of a window.
 fn window_bytes(header: Header) -> usize {
-    let size = num::least(header.frame_size, 34);
+    let size = header.frame_size.min(34);
     if header.channels == 2 {
         return 2 * FRAGMENTS * size;
     }
@@ -103,17 +100,23 @@ fn window_bytes(header: Header) -> usize {
 
 // The samples of a channel in the next window.
 fn window_samples(header: Header, rest: usize) -> usize {
-    num::least(rest, FRAGMENTS * num::least(header.frame_samples, 64))
+    rest.min(FRAGMENTS * header.frame_samples.min(64))
 }
 
 // Makes the next window a file by itself, and answers where it ends.
-fn next_window(source: &mut Source, header: Header, rest: usize, window: &mut [u8]) -> usize {
-    let end = read_window(source, &mut *window, window_bytes(header));
-    put_count(window, window_samples(header, rest));
+fn next_window(source: &mut Source<'_>, header: Header, rest: usize) -> usize {
+    let end = read_window(&mut *source, window_bytes(header));
+    put_count(&mut *source.window, window_samples(header, rest));
     end
 }
 
-fn printed(header: Header, place: Place, prints: bool, file: &[u8], text: &mut [u8]) -> Place {
+fn printed(
+    header: Header,
+    place: Place,
+    prints: bool,
+    file: &[u8],
+    text: &mut Output<'_>,
+) -> Place {
     if prints {
         return print_pieces(header, place, file, text);
     }
@@ -121,7 +124,7 @@ fn printed(header: Header, place: Place, prints: bool, file: &[u8], text: &mut [
 }
 
 // The check of a window, after which it is printed, if it is to be.
-fn passed(header: Header, walk: Walk, prints: bool, file: &[u8], text: &mut [u8]) -> Walk {
+fn passed(header: Header, walk: Walk, prints: bool, file: &[u8], text: &mut Output<'_>) -> Walk {
     let place = walk.place;
     let found = sqv4::inspect(file);
     let Ok(own) = found else {
@@ -140,25 +143,29 @@ fn passed(header: Header, walk: Walk, prints: bool, file: &[u8], text: &mut [u8]
 }
 
 fn step(
-    source: &mut Source,
+    source: &mut Source<'_>,
     header: Header,
     walk: Walk,
     prints: bool,
-    window: &mut [u8],
-    text: &mut [u8],
+    text: &mut Output<'_>,
 ) -> Walk {
-    let end = next_window(source, header, walk.rest, &mut *window);
-    passed(header, walk, prints, num::part(window, 0, end), text)
+    let end = next_window(&mut *source, header, walk.rest);
+    passed(
+        header,
+        walk,
+        prints,
+        num::part(&*source.window, 0, end),
+        text,
+    )
 }
 
 // All windows of a file, behind its header.
 fn walked(
-    source: &mut Source,
+    source: &mut Source<'_>,
     header: Header,
     place: Place,
     prints: bool,
-    window: &mut [u8],
-    text: &mut [u8],
+    text: &mut Output<'_>,
 ) -> Walk {
     let mut walk = Walk {
         rest: place.rest,
@@ -169,40 +176,37 @@ fn walked(
         if walk.rest == 0 {
             return walk;
         }
-        walk = step(&mut *source, header, walk, prints, &mut *window, &mut *text);
+        walk = step(&mut *source, header, walk, prints, &mut *text);
     }
     walk
 }
 
 // What the fragments of a file are found to be.
 fn checked(
-    source: &mut Source,
+    source: &mut Source<'_>,
     header: Header,
-    window: &mut [u8],
-    text: &mut [u8],
+    text: &mut Output<'_>,
 ) -> Result<Header, InspectError> {
-    let place = begun(header.samples_per_channel, 0);
-    let walk = walked(source, header, place, false, window, text);
+    let place = begun(header.samples_per_channel);
+    let walk = walked(source, header, place, false, text);
     walk.found
 }
 
 // Prints a file that is taken.
-fn print_taken(source: &mut Source, header: Header, window: &mut [u8], text: &mut [u8]) -> usize {
-    let end = crate::put_answer(&mut *text, 0, Ok(header));
+fn print_taken(source: &mut Source<'_>, header: Header, text: &mut Output<'_>) {
+    crate::put_answer(&mut *text, Ok(header));
     again(&mut *source);
-    read_head(&mut *source, &mut *window);
-    let first = begun(header.samples_per_channel, end);
-    let walk = walked(source, header, first, true, window, text);
-    let place = walk.place;
-    place.end
+    read_head(&mut *source);
+    let first = begun(header.samples_per_channel);
+    walked(source, header, first, true, text);
 }
 
 // Prints a file whose length is right.
-fn print_walked(source: &mut Source, header: Header, window: &mut [u8], text: &mut [u8]) -> usize {
-    if let Err(error) = checked(&mut *source, header, &mut *window, &mut *text) {
-        return crate::put_answer(text, 0, Err(error));
+fn print_walked(source: &mut Source<'_>, header: Header, text: &mut Output<'_>) {
+    if let Err(error) = checked(&mut *source, header, &mut *text) {
+        return crate::put_answer(text, Err(error));
     }
-    print_taken(source, header, window, text)
+    print_taken(source, header, text)
 }
 
 // The length that a header at the front of a window asks for.
@@ -222,14 +226,14 @@ struct FileHead {
     expected: usize,
 }
 
-fn file_head(source: &mut Source, window: &mut [u8]) -> FileHead {
+fn file_head(source: &mut Source<'_>) -> FileHead {
     again(&mut *source);
-    read_head(source, &mut *window);
-    let samples = count_of(&*window);
-    let expected = asked(&*window);
-    put_count(&mut *window, 0);
+    read_head(&mut *source);
+    let samples = count_of(&*source.window);
+    let expected = asked(&*source.window);
+    put_count(&mut *source.window, 0);
     FileHead {
-        found: sqv4::inspect(num::part(window, 0, HEAD)),
+        found: sqv4::inspect(num::part(&*source.window, 0, HEAD)),
         samples,
         expected,
     }
@@ -257,13 +261,13 @@ fn found_of(head: FileHead, length: usize) -> Result<Header, InspectError> {
 }
 
 // Prints a file that is not too long.
-fn print_opened(source: &mut Source, length: usize, window: &mut [u8], text: &mut [u8]) -> usize {
-    let head = file_head(&mut *source, &mut *window);
+fn print_opened(source: &mut Source<'_>, length: usize, text: &mut Output<'_>) {
+    let head = file_head(&mut *source);
     let found = found_of(head, length);
     let Ok(header) = found else {
-        return crate::put_answer(text, 0, found);
+        return crate::put_answer(text, found);
     };
-    print_walked(source, header, window, text)
+    print_walked(source, header, text)
 }
 
 // Puts what the file on standard input is, of which so many bytes have been read, and writes what the text has no room for. It is read
@@ -272,13 +276,18 @@ pub(crate) fn print_long(
     again: Option<File>,
     read: usize,
     window: &mut [u8],
-    text: &mut [u8],
-) -> usize {
-    if let Some(mut source) = Source::of(again) {
+    text: &mut Output<'_>,
+) {
+    if let Some((file, begin)) = begun_at(again) {
         let length = count_input(read, &mut *window);
         if length <= LONGEST_READ {
-            return print_opened(&mut source, length, window, text);
+            let mut source = Source {
+                file,
+                begin,
+                window,
+            };
+            return print_opened(&mut source, length, text);
         }
     }
-    decimal::put_text(text, 0, b"too long\n")
+    text.put_bytes(b"too long\n")
 }

@@ -2,11 +2,10 @@
 use mathlib.Core.Path.{◌≡◌, refl, ap, ap₂, ◌∙◌}
 use mathlib.Core.List.{List, [], ◌∷◌, ◌++◌}
 use Prim.Native.Nat.{ℕ, zero, suc, ◌+◌, ◌*◌, ◌^◌, ◌<◌, ◌≤◌}
-use native.Mathlib.Numerals.{add-one}
 use native.Mathlib.Omega.{arith}
 use lib.IntN.{ℤ}
-use lib.ListN.{length, get_or, set, drop, replicate, length-replicate}
-use lib.Seq.{sets, length-sets, sets-eq}
+use lib.ListN.{length, get_or, set, take, drop, replicate, length-replicate}
+use lib.Seq.{sets, length-sets, sets-eq, take-append-le, take_all}
 use lib.Pow.{pow_pos, lt_of_le_ones}
 use Rattle.num.proofs.Lists.{each_set}
 use Rattle.adpcm.specs.declared.Variant.{Variant}
@@ -16,8 +15,8 @@ use Rattle.adpcm.specs.Codes.{bits_of, payload_bytes, decode_code}
 use Rattle.sqv4.specs.Decoding.{start_of}
 use Rattle.sqv4_writer.specs.Choice.{last_code, distance_of, code_for, codes_for}
 use Rattle.sqv4_writer.specs.Packing.{codes_number, bytes_of, packed}
-use Rattle.sqv4_writer.specs.Streams.{fragment_for}
 use Rattle.sqv4_writer.proofs.Nearest.{nearest}
+use Rattle.sqv4_writer.proofs.Series.{length-bytes}
 
 -- ---- codes
 module _ (k : Variant) (volume : ℕ) where
@@ -61,9 +60,6 @@ module _ (k : Variant) (volume : ℕ) (s : State) (xs : List ℤ) (few : length 
   abbrev pub array : List ℕ
   array = sets (replicate 64 0) 0 (codes_for k volume s xs)
 
-  pub array_long : length array ≡ 64
-  array_long = length-sets (replicate 64 0) 0 (codes_for k volume s xs)
-
   pub array-small : (i : ℕ) → get_or array i 0 < 2 ^ bits_of k
   array-small = each-sets (λ c. c < 2 ^ bits_of k) (codes_for k volume s xs) (codes-small k volume s xs) (replicate 64 0) (zero-small 64) 0
     where
@@ -83,16 +79,22 @@ eight-codes H = refl
 eight-codes L = refl
 eight-codes LPlus = refl
 
-pub stored : (k : Variant) (volume index at bits : ℕ) (xs : List ℤ) (out out₁ out₂ out₃ : List ℕ) (codes : List ℕ) → length xs ≤ 63 → bits ≡ bits_of k
+pub packed-bytes : (k : Variant) (volume index bits : ℕ) (xs : List ℤ) (codes bytes : List ℕ) → length xs ≤ 63 → bits ≡ bits_of k
     → codes ≡ sets (replicate 64 0) 0 (codes_for k volume (start_of index) xs)
-    → out₁ ≡ set out at volume → out₂ ≡ set out₁ (at + 1) index → out₃ ≡ sets out₂ (at + 2) (bytes_of (8 * bits) (codes_number bits codes))
-    → out₃ ≡ sets out at (fragment_for k volume index xs)
-unfolding fragment_for
-stored k volume index at bits xs out out₁ out₂ out₃ codes few b a e f g =
+    → bytes ≡ sets (replicate 32 0) 0 (bytes_of (8 * bits) (codes_number bits codes))
+    → take (8 * bits) bytes ≡ packed k (codes_for k volume (start_of index) xs)
+packed-bytes k volume index bits xs codes bytes few b a e =
     let cs = codes_for k volume (start_of index) xs in
-    g ∙ ap₂ (λ (o p : List ℕ). sets o (at + 2) p) (f ∙ ap (λ (o : List ℕ). set o (at + 1) index) e)
-    (ap₂ (λ (w : ℕ) (l : List ℕ). bytes_of (8 * w) (codes_number w l)) b a ∙ ap₂ bytes_of (eight-codes k) (array-number k volume (start_of index) xs few (bits_of k)))
-    ∙ ap₂ (λ (m n : ℕ). sets (set (set out at volume) m index) n (packed k cs)) (add-one at) (two at)
+    let q : bytes_of (8 * bits) (codes_number bits codes) ≡ packed k cs =
+    ap₂ (λ (w : ℕ) (l : List ℕ). bytes_of (8 * w) (codes_number w l)) b a ∙ ap₂ bytes_of (eight-codes k) (array-number k volume (start_of index) xs few (bits_of k)) in
+    ap₂ take (ap (λ (w : ℕ). 8 * w) b ∙ eight-codes k) (e ∙ ap (sets (replicate 32 0) 0) q) ∙ front (payload_bytes k) (packed k cs) (length-bytes (payload_bytes k) _) (most k)
   where
-    two : (n : ℕ) → n + 2 ≡ suc (suc n)
-    two n = omega arith
+    most : (k : Variant) → payload_bytes k ≤ 32
+    most H = omega arith
+    most L = omega arith
+    most LPlus = omega arith
+
+    front : (n : ℕ) (l : List ℕ) → length l ≡ n → n ≤ 32 → take n (sets (replicate 32 0) 0 l) ≡ l
+    front n l p h =
+        ap (take n) (sets-eq l (replicate 32 0) 0 (omega (arith, length-replicate {A = ℕ} 32 0)))
+        ∙ take-append-le n l (drop (0 + length l) (replicate 32 0)) (omega arith) ∙ take_all n l (omega arith)

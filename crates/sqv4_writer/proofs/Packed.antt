@@ -1,8 +1,9 @@
 -- What was packed is unpacked, and no bit stands past the last code. Assumes nothing.
-use mathlib.Core.Path.{◌≡◌, sym, ap, ◌∙◌, subst}
+use mathlib.Core.Path.{◌≡◌, refl, sym, ap, ◌∙◌, subst}
 use mathlib.Core.List.{List, [], ◌∷◌}
 use Prim.Native.Nat.{ℕ, zero, suc, ◌+◌, ◌*◌, ◌/◌, ◌%◌, ◌^◌, ◌<◌}
-use native.Mathlib.Nat.{div-one, zero-div, zero-mod, mul-le-mul_right, suc-mul, zero-mul, add_comm}
+use Rattle.std.specs.Int.{bytes_low_first}
+use native.Mathlib.Nat.{pow-suc, div-div-eq-div-mul, div-one, zero-div, zero-mod, mul-le-mul_right, suc-mul, zero-mul, add_comm}
 use native.Mathlib.Omega.{arith}
 use lib.ListN.{length, get_or}
 use lib.Pow.{pow_pos, pow-add, high, low, shr-shr, shr_lt}
@@ -51,7 +52,16 @@ number_lt w (c ∷ cs) h =
     places : (j k : ℕ) → j * k + k ≡ suc j * k
     places j k = sym (suc-mul j k)
 
--- four bytes, each by its first bit
-pub four_bytes : (n : ℕ) → bytes_of 4 n ≡ n / 2 ^ 0 % 256 ∷ n / 2 ^ 8 % 256 ∷ n / 2 ^ 16 % 256 ∷ n / 2 ^ 24 % 256 ∷ []
+-- the low bytes of a number, as the library has them
+low-from : (i k n : ℕ) → bytes_low_first (suc i) k n ≡ bytes_of k (n / 256 ^ suc i)
 unfolding bytes_of
-four_bytes n = rw (shr-shr n 8 8, shr-shr n 16 8, div-one n)
+low-from i zero n = refl
+low-from i (suc k) n = ap (λ (l : List ℕ). n / 256 ^ suc i % 256 ∷ l) (low-from (suc i) k n ∙ ap (bytes_of k) (sym next))
+  where
+    next : n / 256 ^ suc i / 256 ≡ n / 256 ^ suc (suc i)
+    next = div-div-eq-div-mul n (256 ^ suc i) 256 ∙ ap (λ (x : ℕ). n / x) (sym (pow-suc 256 (suc i)))
+
+pub low-bytes : (k n : ℕ) → bytes_low_first 0 k n ≡ bytes_of k n
+unfolding bytes_of
+low-bytes zero n = refl
+low-bytes (suc k) n = ap (λ (l : List ℕ). n % 256 ∷ l) (low-from 0 k n)

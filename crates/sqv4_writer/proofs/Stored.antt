@@ -1,4 +1,4 @@
--- What is stored and what is to come, turn by turn: bytes, and the codes of samples. Assumes nothing.
+-- What is stored and what is to come, turn by turn: the codes of samples. Assumes nothing.
 use mathlib.Core.Path.{◌≡◌}
 use mathlib.Core.List.{List}
 use Prim.Native.Nat.{ℕ, ◌+◌, ◌≤◌, ◌<◌}
@@ -10,13 +10,6 @@ use Rattle.adpcm.specs.declared.Variant.{Variant}
 use Rattle.adpcm.specs.declared.State.{State}
 use Rattle.adpcm.specs.Codes.{decode_code}
 use Rattle.sqv4_writer.specs.Choice.{code_for, codes_for}
-
-module _ (bytes l : List ℕ) (i : ℕ) where
-  pub byte-stored : i < length bytes → sets (set l i (get_or bytes i 0)) (i + 1) (drop (i + 1) bytes) ≡ sets l i (drop i bytes)
-  byte-stored h = rw (add-one i, drop-cons bytes i 0 h)
-
-  pub bytes-done : length bytes ≤ i → l ≡ sets l i (drop i bytes)
-  bytes-done h = rw (drop_of_length-le bytes h)
 
 module _ (k : Variant) (volume : ℕ) (xs : List ℤ) (codes : List ℕ) (s : State) (i : ℕ) where
   -- a code, and the state that goes on with it

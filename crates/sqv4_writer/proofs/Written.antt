@@ -83,10 +83,6 @@ module _ (xs : List ℤ) (k : Variant) (rate volume index : ℕ) where
   unfolding file_of header_bytes bytes_of
   rate-is h = le_bytes 4 rate h
 
-  pub count-is : length xs ≤ max_samples → le (part file 12 4) ≡ length xs
-  unfolding file_of header_bytes bytes_of
-  count-is h = le_bytes 4 (length xs) (omega arith)
-
   pub header_is : rate < 2 ^ 32 → length xs ≤ max_samples → header_of file k ≡ header
   unfolding file_of header_bytes bytes_of
   header_is h few = ap₂ (header_for k) (le_bytes 4 rate h) (le_bytes 4 (length xs) (omega arith))

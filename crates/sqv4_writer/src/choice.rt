@@ -26,7 +26,7 @@ fn distance(variant: Variant, state: State, size: u16, volume: u8, sample: i16, 
 {
     let next = adpcm::decode_at(VERSION, variant, state, size, code);
     let value = adpcm::apply_volume(next.predictor, volume);
-    num::magnitude((value as i32) - (sample as i32))
+    ((value as i32) - (sample as i32)).unsigned_abs()
 }
 
 // The nearest of all codes, the smaller on a tie.
@@ -58,11 +58,11 @@ pub(crate) fn choose_codes(samples: &[i16], terms: Terms) -> [u8; 64]
     let mut codes = [0u8; 64];
     let mut state = State {
         predictor: 0,
-        index: num::least(terms.index as usize, 88),
+        index: (terms.index as usize).min(88),
     };
-    for i in 0..samples.len() {
-        let at = num::least(state.index, 88);
-        let code = nearest_code(variant, state, steps[at], terms.volume, samples[i]);
+    for (i, &sample) in samples.iter().enumerate() {
+        let at = state.index.min(88);
+        let code = nearest_code(variant, state, steps[at], terms.volume, sample);
         codes[i] = code;
         state = adpcm::decode_at(VERSION, variant, state, steps[at], code);
     }

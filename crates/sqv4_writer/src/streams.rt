@@ -3,10 +3,10 @@ ghost use Rattle.std.specs.Prelude.{◌≡◌, length, ◌≤◌};
 ghost use Rattle.std.proofs.lemmas.List.Edits.{sets};
 ghost use Rattle.sqv4_writer.specs.Streams.{out_of_terms, length_for, answer_for, written_into, file_of, error_number, max_samples};
 
-use crate::fragments::{fragment_count, header_bytes, write_fragments};
-use crate::packing::store_first;
+use crate::fragments::{fragment_count, put_fragments, put_header};
 use crate::{HEADER_SIZE, MAX_SAMPLES, MAX_STEP_INDEX, StreamError, Terms};
 use adpcm::Variant;
+use output::Output;
 
 fn out_of_terms(samples: usize, terms: Terms) -> bool
     ensures { result ≡ out_of_terms samples terms.rate terms.volume terms.index }
@@ -49,9 +49,9 @@ fn write_file(samples: &[i16], terms: Terms, out: &mut [u8])
     requires { length samples.now ≤ max_samples }
     ensures { out.new ≡ sets out.old 0 (file_of samples.now terms.variant terms.rate terms.volume terms.index) }
 {
-    let header = header_bytes(terms.variant, terms.rate, samples.len() as u32);
-    store_first(out, &header);
-    write_fragments(samples, terms, out);
+    let mut file = Output { buffer: out, at: 0 };
+    put_header(&mut file, terms.variant, terms.rate, samples.len() as u32);
+    put_fragments(&mut file, samples, terms);
 }
 
 // Writes the file of some samples into `out`, and what stands past it stays, and answers its length. A call that is turned away writes nothing.

@@ -30,7 +30,7 @@ fn count_at(info: Info, frame: usize) -> usize
     if info.sample_count <= first {
         return 0;
     }
-    num::least(info.sample_count - first, info.frame_samples)
+    info.frame_samples.min(info.sample_count - first)
 }
 
 // A fragment of the file, decoded into its half, and the state after it: version 3 carries none.
@@ -67,11 +67,11 @@ fn decode_into(
     )
 }
 
-impl StreamCache {
-    // A cache that holds nothing.
-    pub fn empty() -> StreamCache
-        ensures { result ≡ emptied }
-    {
+// A cache that holds nothing.
+impl Default for StreamCache {
+    ghost is_default = { λ cache. cache ≡ emptied };
+
+    fn default() -> StreamCache {
         StreamCache {
             valid: false,
             variant: None,
@@ -88,7 +88,9 @@ impl StreamCache {
             decoder: State::default(),
         }
     }
+}
 
+impl StreamCache {
     pub(crate) fn filled(variant: Variant, info: Info) -> StreamCache
         ensures { result ≡ filled_with variant info }
     {
@@ -96,10 +98,7 @@ impl StreamCache {
             valid: true,
             variant: Some(variant),
             info,
-            even: None,
-            odd: None,
-            next_frame: 0,
-            decoder: State::default(),
+            ..StreamCache::default()
         }
     }
 

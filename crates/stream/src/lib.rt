@@ -25,9 +25,11 @@ pub struct Info {
 // from 64 on.
 #[derive(Clone, Copy)]
 pub struct StreamCache {
+    // Kept as it is: a stored cache may be marked valid without a variant, which `accepts` refuses, and one that is not valid may keep one.
     pub valid: bool,
     pub variant: Option<Variant>,
     pub info: Info,
+    // Kept as it is: with an array of the two halves a log of stream voices takes 1.007 times the instructions.
     pub even: Option<usize>,
     pub odd: Option<usize>,
     pub next_frame: usize,

@@ -30,9 +30,9 @@ impl StreamCache {
             return 0;
         }
         if self.has(frame + 1) {
-            return num::least(per + per, info.sample_count - first) - 1;
+            return (per + per).min(info.sample_count - first) - 1;
         }
-        num::least(per, info.sample_count - first) - 1
+        per.min(info.sample_count - first) - 1
     }
 
     // What the cache serves from a sample on.

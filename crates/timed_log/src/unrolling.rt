@@ -1,13 +1,15 @@
 // Times written out: frames as `C` lines, and each line as a plain log has it.
 ghost use Rattle.std.specs.Prelude.{◌≡◌, true, [], ◌++◌, ◌+◌, ◌-◌, ◌≤◌, ◌<◌, ◌^◌, length};
 ghost use Rattle.std.proofs.lemmas.List.Edits.{sets};
-ghost use Rattle.decimal.specs.Written.{Put};
+ghost use Rattle.output.specs.Output.{Puts};
 ghost use Rattle.num.specs.Lists.{part};
 ghost use Rattle.timed_log.specs.Lines.{frame_most, due_already};
 ghost use Rattle.timed_log.specs.Unrolled.{clock_most, clock_text, clockwork, no_frames, applied};
-ghost use Rattle.timed_log.specs.Unrolls.{has_place, gap_text, reach, unroll_from, unrolled_as, unrolled_to};
+ghost use Rattle.timed_log.specs.Unrolls.{gap_text, reach, unroll_from, unrolled_as, unrolled_to};
 
 use crate::{Clockwork, Unrolled};
+use log_player::has_room;
+use output::Output;
 
 // A `C` line has at most so many frames.
 const MOST_FRAMES: u32 = 1000;
@@ -15,51 +17,21 @@ const MOST_FRAMES: u32 = 1000;
 // Room for a `C` line and a line: 7 bytes, and 17.
 const ROOM: usize = 32;
 
-// Whether there is room behind `end` for a line, and a number for the line behind it.
-fn has_place(length: usize, end: usize, number: u64) -> bool
-    ensures result { result ≡ has_place length end number }
-    ensures number_bound { result ≡ true → number + 1 < 2 ^ 64 }
-{
-    if number == 0xffff_ffff_ffff_ffff {
-        return false;
-    }
-    if length < end {
-        return false;
-    }
-    ROOM <= length - end
-}
-
 // Puts the line that sounds so many frames.
-fn put_clock(out: &mut [u8], at: usize, frames: u32) -> usize
-    ensures { Put out.old out.new at (clock_text frames) result }
+fn put_clock(out: &mut Output<'_>, frames: u32)
+    ensures { Puts out.old out.new (clock_text frames) }
 {
-    let first = decimal::put_text(out, at, b"C,");
-    let second = decimal::put_natural(out, first, frames as u64);
-    decimal::put_byte(out, second, 10)
-}
-
-// Puts a text as decimal::put_text does; where there is room it is copied.
-fn put_bytes(out: &mut [u8], at: usize, text: &[u8]) -> usize
-    ensures { Put out.old out.new at text.now result }
-{
-    if at <= out.len() {
-        if text.len() <= out.len() - at {
-            out[at..at + text.len()].copy_from_slice(text);
-            return at + text.len();
-        }
-    }
-    decimal::put_text(out, at, text)
+    decimal::put_line(out, b"C,", frames as u64);
 }
 
 // Puts the line that sounds the frames before a line, if there are any, and the line.
-fn put_line(out: &mut [u8], at: usize, gap: u32, line: &[u8]) -> usize
-    ensures { Put out.old out.new at (gap_text gap ++ line.now) result }
+fn put_line(out: &mut Output<'_>, gap: u32, line: &[u8])
+    ensures { Puts out.old out.new (gap_text gap ++ line.now) }
 {
-    if gap == 0 {
-        return put_bytes(out, at, line);
+    if gap != 0 {
+        put_clock(&mut *out, gap);
     }
-    let behind = put_clock(out, at, gap);
-    put_bytes(out, behind, line)
+    out.put_bytes(line);
 }
 
 impl Clockwork {
@@ -113,24 +85,27 @@ impl Clockwork {
         let mut clock = self;
         let mut place = from;
         let mut line = number;
-        let mut end = 0;
+        let mut text = Output {
+            buffer: plain,
+            at: 0,
+        };
         // Kept as it is: a turn writes out a line, or a thousand frames of the gap before it, so there is no range or chain to go over.
-        while has_place(plain.len(), end, line) {
+        while has_room(ROOM, text.buffer.len(), text.at, line) {
             let Ok(Some(due)) = clock.next_due(input, place) else {
-                return clock.unrolled(place, line, end);
+                return clock.unrolled(place, line, text.at);
             };
             let gap = due.stamp - clock.frames;
             if MOST_FRAMES < gap {
-                end = put_clock(&mut *plain, end, MOST_FRAMES);
+                put_clock(&mut text, MOST_FRAMES);
                 clock = clock.sounded();
             } else {
-                end = put_line(&mut *plain, end, gap, num::part(input, due.from, due.to));
+                put_line(&mut text, gap, num::part(input, due.from, due.to));
                 clock = clock.applied(due.stamp);
                 place = due.to;
                 line += 1;
             }
         }
-        clock.unrolled(place, line, end)
+        clock.unrolled(place, line, text.at)
     }
 
     fn unrolled(self, from: usize, number: u64, end: usize) -> Unrolled

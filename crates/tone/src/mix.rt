@@ -24,7 +24,7 @@ fn scaled(z: i32, factor: u8, divisor: u32) -> i32
     requires { (unsigned_abs z ≤ 8388608) × (0 < divisor) }
     ensures { result ≡ int_div (z *ℤ pos factor) (pos divisor) }
 {
-    let n = (num::magnitude(z) * (factor as u32) / divisor) as i32;
+    let n = (z.unsigned_abs() * (factor as u32) / divisor) as i32;
     if z < 0 { -n } else { n }
 }
 
@@ -114,7 +114,7 @@ pub fn saturate_output(sample: i32) -> i16
 pub fn saturating_add(a: i16, b: i16) -> i16
     ensures { result ≡ saturating_add a b }
 {
-    num::clamp16((a as i32) + (b as i32))
+    a.saturating_add(b)
 }
 
 // The sum in two's complement of 32 bits.

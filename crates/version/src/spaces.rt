@@ -76,6 +76,7 @@ fn trailing(s: &[u8]) -> usize
 }
 
 // Where a text begins and ends without the white space about it.
+// Kept as it is: with a closure for both ends the contract of the one function needs a definition of its own, which is longer than this loop.
 pub(crate) fn text_start(s: &[u8]) -> usize
     ensures { drop result s.now ≡ trim_start s.now }
 {

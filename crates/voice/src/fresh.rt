@@ -10,21 +10,23 @@ use stream::StreamCache;
 use ticks::Oscillator;
 use version::SguVersion;
 
-impl Channel {
-    // A channel that was just made.
-    pub fn default() -> Channel
-        ensures { result ≡ default_channel }
-    {
+// A channel that was just made.
+impl Default for Channel {
+    ghost is_default = { λ channel. channel ≡ default_channel };
+
+    fn default() -> Channel {
         let c = Channel {
             oscillator: Oscillator::default(),
             fifo: Fifo::default(),
-            stream: StreamCache::empty(),
+            stream: StreamCache::default(),
             pcm: PcmRegisters::default(),
             registers: Registers::default(),
         };
         c.reset()
     }
+}
 
+impl Channel {
     // Every register and all that ticks move begins anew. Wavetable and decoded fragments are beside the channel.
     pub fn reset(mut self) -> Channel
         ensures { result ≡ default_channel }
@@ -51,8 +53,7 @@ impl Channel {
     pub fn invalidate_sqv4(mut self) -> Channel
         ensures { result ≡ set_stream self emptied }
     {
-        let s = StreamCache::empty();
-        self.stream = s;
+        self.stream = StreamCache::default();
         self
     }
 

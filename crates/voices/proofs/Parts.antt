@@ -3,8 +3,8 @@ use mathlib.Core.Path.{◌≡◌, refl, sym, ap, ◌∙◌}
 use mathlib.Core.List.{List, [], ◌∷◌, ◌++◌, append_assoc, map}
 use Prim.Native.Nat.{ℕ, zero, suc, ◌+◌, ◌-◌, ◌≤◌}
 use native.Mathlib.Omega.{arith}
-use native.Mathlib.Nat.{le-add_right, add-zero, add-suc, suc-add}
-use lib.ListN.{length, take, drop, set, get_or, replicate}
+use native.Mathlib.Nat.{le-add_right}
+use lib.ListN.{length, take, drop, set, get_or}
 use lib.Seq.{sets, sets-eq, set_out}
 use borrow.Rule.Slice.PartMut.{put_mid, Post-is}
 
@@ -18,11 +18,6 @@ put-part {A} l ys a n r e =
 pub sets-past : {A : Type 0} (l : List A) (i : ℕ) (vs : List A) → length l ≤ i → sets l i vs ≡ l
 sets-past l i [] h = refl
 sets-past l i (v ∷ vs) h = ap (λ m. sets m (suc i) vs) (set_out l i v h) ∙ sets-past l (suc i) vs (omega arith)
-
--- one more of the same
-pub sets_more : {A : Type 0} (x : A) (i : ℕ) (l : List A) (a : ℕ) → set (sets l a (replicate i x)) (a + i) x ≡ sets l a (replicate (suc i) x)
-sets_more x zero l a = ap (λ (k : ℕ). set l k x) (add-zero a)
-sets_more x (suc i) l a = ap (λ (k : ℕ). set (sets (set l a x) (suc a) (replicate i x)) k x) (add-suc a i ∙ sym (suc-add a i)) ∙ sets_more x i (set l a x) (suc a)
 
 -- ---- the first n elements changed alike
 module _ {A : Type 0} (f : A → A) where

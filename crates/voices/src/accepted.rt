@@ -10,8 +10,7 @@ use voice::Channel;
 fn accepts_each(channels: [Channel; 8], version: SguVersion, length: usize) -> bool
     ensures { result ≡ accepts_first 8 channels version length }
 {
-    for ch in 0usize..8 {
-        let c = channels[ch];
+    for c in &channels {
         if !c.accepts(version, length) {
             return false;
         }

@@ -9,13 +9,7 @@ use voice::Channel;
 pub fn actives(channels: [Channel; 8]) -> [bool; NUM_CHANNELS]
     ensures flags { Actives channels result }
 {
-    let mut flags = [false; NUM_CHANNELS];
-    for ch in 0usize..8 {
-        let c = channels[ch];
-        let p = c.pcm;
-        flags[ch] = p.active;
-    }
-    flags
+    channels.map(|c| c.pcm.active)
 }
 
 // The channels that were active and are so no more, as a set: bit n for channel n.

@@ -28,10 +28,8 @@ impl Core {
         ensures { result ≡ set_wavetables self (no_wavetable ch self.wavetables) }
     {
         let mut core = self;
-        for i in 0usize..256 {
-            let at = ch * 256 + i;
-            core.wavetables[at] = 0x80;
-        }
+        let from = ch * 256;
+        core.wavetables[from..from + 256].fill(0x80);
         core
     }
 
@@ -51,9 +49,8 @@ impl Core {
         ensures { result ≡ set_core_version self version }
     {
         let mut core = self;
-        for ch in 0usize..8 {
-            let c = core.channels[ch];
-            core.channels[ch] = c.set_version(version);
+        for c in &mut core.channels {
+            *c = c.set_version(version);
         }
         core.fragments = [0i16; 1024];
         core

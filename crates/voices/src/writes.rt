@@ -79,6 +79,7 @@ impl Core {
         self
     }
 
+    // Kept as it is: `write_voice` differs in the two functions that it calls; one function of two closures for both would be as long, and its contract longer.
     fn write_block(
         self,
         version: SguVersion,

@@ -1,62 +1,56 @@
 // Samples of 16 bits as bytes, the low one first; a frame is its left sample and its right one.
 ghost use Rattle.std.specs.Prelude.{◌≡◌, ◌/◌, min, pos, length, get_or};
-ghost use Rattle.decimal.specs.Written.{Put};
+ghost use Rattle.output.specs.Output.{Puts};
 ghost use Rattle.sizes.specs.Sizes.{stems_per_frame};
 ghost use Rattle.wav.specs.Samples.{sample_bytes, frame_bytes, samples_bytes, sides_bytes, channel_bytes};
 
-use crate::header::put_two;
+use output::Output;
 use sizes::{LAST_CHANNEL, STEMS};
 
-fn put_sample(out: &mut [u8], at: usize, sample: i16) -> usize
-    ensures { Put out.old out.new at (sample_bytes sample) result }
+fn put_sample(out: &mut Output<'_>, sample: i16)
+    ensures { Puts out.old out.new (sample_bytes sample) }
 {
-    put_two(out, at, num::bits16(sample) as u64)
+    out.put_bytes(&sample.to_le_bytes());
 }
 
-fn put_frame(out: &mut [u8], at: usize, left: i16, right: i16) -> usize
-    ensures { Put out.old out.new at (frame_bytes left right) result }
+fn put_frame(out: &mut Output<'_>, left: i16, right: i16)
+    ensures { Puts out.old out.new (frame_bytes left right) }
 {
-    let middle = put_sample(out, at, left);
-    put_sample(out, middle, right)
+    put_sample(&mut *out, left);
+    put_sample(out, right);
 }
 
 // Puts samples one behind the other.
-pub fn put_samples(out: &mut [u8], at: usize, samples: &[i16]) -> usize
-    ensures { Put out.old out.new at (samples_bytes samples.now) result }
+pub fn put_samples(out: &mut Output<'_>, samples: &[i16])
+    ensures { Puts out.old out.new (samples_bytes samples.now) }
 {
-    let mut end = num::least(at, out.len());
-    for sample in samples {
-        end = put_sample(out, end, *sample);
+    out.at = out.at.min(out.buffer.len());
+    for &sample in samples {
+        put_sample(&mut *out, sample);
     }
-    end
 }
 
 // Puts the frames of two sides, as many as the shorter has.
-pub fn put_sides(out: &mut [u8], at: usize, left: &[i16], right: &[i16]) -> usize
-    ensures { Put out.old out.new at
-        (sides_bytes left.now right.now (min (length left.now) (length right.now))) result }
+pub fn put_sides(out: &mut Output<'_>, left: &[i16], right: &[i16])
+    ensures { Puts out.old out.new
+        (sides_bytes left.now right.now (min (length left.now) (length right.now))) }
 {
-    let frames = num::least(left.len(), right.len());
-    let mut end = num::least(at, out.len());
-    for i in 0..frames {
-        end = put_frame(out, end, left[i], right[i]);
+    out.at = out.at.min(out.buffer.len());
+    for (&l, &r) in left.iter().zip(right) {
+        put_frame(&mut *out, l, r);
     }
-    end
 }
 
 // Puts the frames of one channel of some stems, of which each frame has 16; there is no channel above 7.
-pub fn put_channel(out: &mut [u8], at: usize, stems: &[i16], channel: usize) -> usize
-    ensures { Put out.old out.new at
-        (channel_bytes channel stems.now (length stems.now / stems_per_frame)) result }
+pub fn put_channel(out: &mut Output<'_>, stems: &[i16], channel: usize)
+    ensures { Puts out.old out.new
+        (channel_bytes channel stems.now (length stems.now / stems_per_frame)) }
 {
-    let mut end = num::least(at, out.len());
+    out.at = out.at.min(out.buffer.len());
     if LAST_CHANNEL < channel {
-        return end;
+        return;
     }
-    let frames = stems.len() / STEMS;
-    for i in 0..frames {
-        let left = STEMS * i + 2 * channel;
-        end = put_frame(out, end, stems[left], stems[left + 1]);
+    for frame in stems.chunks_exact(STEMS) {
+        put_frame(&mut *out, frame[2 * channel], frame[2 * channel + 1]);
     }
-    end
 }

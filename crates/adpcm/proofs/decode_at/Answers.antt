@@ -6,5 +6,5 @@ use Rattle.adpcm.proofs.decode_at.Goals as goal
 pub returns : goal.returns
 returns c =
     let a = c.args in
-    rw (to_z-of_z (sfits_of c.delta_at.type_inv), to_z-of_z (sfits_of c.adjust.type_inv), c.delta_at.ensures.0, c.adjust.ensures.0, c.least-step.ensures) at c.update.ensures
+    rw (to_z-of_z (sfits_of c.delta_at.type_inv), to_z-of_z (sfits_of c.adjust.type_inv), c.delta_at.ensures.0, c.adjust.ensures.0, c.min-step.ensures) at c.update.ensures
     ∙ sym (decode_is a.version a.variant a.state (min a.size 32767) a.code)

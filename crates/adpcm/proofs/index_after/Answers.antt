@@ -9,17 +9,17 @@ use Rattle.adpcm.proofs.index_after.Reads
 use Rattle.adpcm.proofs.index_after.Tie
 use Rattle.adpcm.proofs.index_after.Goals as goal
 
-abbrev After-least : Type 0
-After-least = Lts.After-least Tie.the-claims Reads.Pre Reads.Post
+abbrev After-min : Type 0
+After-min = Lts.After-min Tie.the-claims Reads.Pre Reads.Post
 
-fits : (c : After-least) → SFits w32 (pos (min c.args.index 88) +ℤ c.args.adjust)
+fits : (c : After-min) → SFits w32 (pos (min c.args.index 88) +ℤ c.args.adjust)
 fits c =
     fit-abs w32 _ 96 (omega (arith, abs-add (pos (min c.args.index 88)) c.args.adjust, c.requires))
     (omega arith)
 
 -- what the local holds
-is : (c : After-least) → to_z w32 (of_z w32 (to_z w32 c.least.result +ℤ to_z w32 (of_z w32 c.args.adjust))) ≡ (pos (min c.args.index 88) +ℤ c.args.adjust)
-is c = rw (to_z_pos w32 {n = c.least.result} (omega (arith, c.least.ensures)), back w32 _ c.ranges.adjust, c.least.ensures) (back w32 _ (fits c))
+is : (c : After-min) → to_z w32 (of_z w32 (to_z w32 c.min.result +ℤ to_z w32 (of_z w32 c.args.adjust))) ≡ (pos (min c.args.index 88) +ℤ c.args.adjust)
+is c = rw (to_z_pos w32 {n = c.min.result} (omega (arith, c.min.ensures)), back w32 _ c.ranges.adjust, c.min.ensures) (back w32 _ (fits c))
 
 low : (c : goal.Else-moved-gt88) → lt_z (pos (min c.args.index 88) +ℤ c.args.adjust) (pos 0) ≡ false
 low c = rw (is c.before.before) at c.if-moved-lt0.false

@@ -5,4 +5,4 @@ use Rattle.adpcm.proofs.step_size.Goals as goal
 
 pub returns : goal.returns
 unfolding step_sizes step_size
-returns c = rw c.least-at.ensures (refl, step-lt c.args.index)
+returns c = rw c.min.ensures (refl, step-lt c.args.index)

@@ -11,7 +11,7 @@ use Rattle.chip_lists.proofs.play_each.Goals as goal
 pub loop-i-init : goal.loop-i-init
 loop-i-init c = let a = c.args in
     let few : 2 * length a.stems.now < 2 ^ 64 = search rules in
-    (going-none a.kinds.now a.addresses.now (playing a.chip a.ram.now a.queues.now a.values.now a.stems.now a.others.now) c.requires refl, c.requires, omega (arith, c.least-count.ensures, c.least.ensures), few)
+    (going-none a.kinds.now a.addresses.now (playing a.chip a.ram.now a.queues.now a.values.now a.stems.now a.others.now) c.requires refl, c.requires, omega (arith, c.min-count.ensures, c.min.ensures), few)
 
 pub overflow_add-to : goal.overflow_add-to
 overflow_add-to c = let a = c.args in

@@ -11,16 +11,16 @@ use Rattle.rest.proofs.Tests.{zero-back, one_passes, one-fails}
 use Rattle.rest.proofs.are_zeros.Goals as goal
 use Rattle.rest.proofs.are_zeros.Goals.{then-not-is_zero, else-not-is_zero}
 
-pub loop-i-init : goal.loop-i-init
+pub loop-fragment-init : goal.loop-fragment-init
 unfolding every
-loop-i-init c = (omega arith, omega arith, refl)
+loop-fragment-init c = (omega arith, refl)
 
-pub loop-i-preserved : goal.loop-i-preserved
-loop-i-preserved c =
-    let l = c.loop-i in
+pub loop-fragment-preserved : goal.loop-fragment-preserved
+loop-fragment-preserved c =
+    let l = c.loop-fragment in
     let f : ℕ → Bool = λ j. is_zero (get_or c.args.fragments j (pos 0)) in
-    let z = c.is_zero.ensures ∙ zero-back (get_or c.args.fragments l.i (pos 0)) (search rules) in
+    let z = c.is_zero.ensures ∙ zero-back (get_or c.args.fragments l.fragment-index (pos 0)) (search rules) in
     elim c.if-not-is_zero.branch [
-      | then-not-is_zero w ↦ (omega arith, omega (arith, w.others-is, l.invariant.1), ap (λ (m : ℕ). eqb m 0) w.others-is ∙ one-fails l.others l.i f l.invariant.2 (sym z ∙ w.if-not-is_zero.true))
-      | else-not-is_zero w ↦ (omega arith, omega (arith, w.others-is, l.invariant.1), ap (λ (m : ℕ). eqb m 0) w.others-is ∙ one_passes l.others l.i f l.invariant.2 (sym z ∙ w.if-not-is_zero.false))
+      | then-not-is_zero w ↦ (omega (arith, w.others-is, l.invariant.0), ap (λ (m : ℕ). eqb m 0) w.others-is ∙ one-fails l.others l.fragment-index f l.invariant.1 (sym z ∙ w.if-not-is_zero.true))
+      | else-not-is_zero w ↦ (omega (arith, w.others-is, l.invariant.0), ap (λ (m : ℕ). eqb m 0) w.others-is ∙ one_passes l.others l.fragment-index f l.invariant.1 (sym z ∙ w.if-not-is_zero.false))
     ]

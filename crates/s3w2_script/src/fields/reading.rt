@@ -1,4 +1,6 @@
 // A line's fields.
+ghost use Rattle.std.specs.Prelude.{◌≤◌, length};
+
 use decimal::Numeral;
 use version::SguVersion;
 
@@ -7,37 +9,31 @@ fn take(text: &[u8], at: usize) -> Numeral<u64> {
     if num::byte_at(text, at) != b',' {
         return None;
     }
-    let first = std::num::wrapping_add_usize(at, 1);
-    if num::byte_at(text, first) != b'-' {
-        return decimal::take_natural(text, first);
+    if num::byte_at(text, at + 1) != b'-' {
+        return decimal::take_natural(text, at + 1);
     }
-    let (value, next) = decimal::take_natural(text, std::num::wrapping_add_usize(at, 2))?;
-    Some((std::num::wrapping_sub_u64(0, value), next))
+    let (value, next) = decimal::take_natural(text, at + 2)?;
+    Some((value.wrapping_neg(), next))
 }
 
 // Puts the fields behind the line's letter, as far as there is room, and answers how many fields there are with it.
-pub(crate) fn parse(text: &[u8], f: &mut [u64]) -> usize {
+pub(crate) fn parse(text: &[u8], f: &mut [u64]) -> usize
+    ensures { result ≤ length f.new }
+{
     let mut at = 1;
-    for k in 1..f.len() {
-        let taken = take(text, at);
-        let Some((value, next)) = taken else {
+    for (k, field) in f.iter_mut().enumerate().skip(1) {
+        let Some((value, next)) = take(text, at) else {
             return k;
         };
-        f[k] = value;
+        *field = value;
         at = next;
     }
     f.len()
 }
 
-// The first fields.
-pub(crate) fn first(f: &[u64], count: usize) -> &[u64] {
-    let n = num::least(count, f.len());
-    &f[..n]
-}
-
 // A field; one that is not there is 0.
 pub(crate) fn long(line: &[u64], k: usize) -> u64 {
-    if k < line.len() { line[k] } else { 0 }
+    line.get(k).copied().unwrap_or(0)
 }
 
 // The same by its type.

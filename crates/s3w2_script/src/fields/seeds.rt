@@ -8,29 +8,36 @@ pub(crate) fn bits_of(seed: u64) -> u16 {
     (seed / 256 % 65536) as u16
 }
 
-// Two halves of 16 bits.
-pub(crate) fn wide(high: u16, low: u16) -> i32 {
-    let half = (num::signed16(high) as i32) * 32768;
-    tone::wrapping_add(tone::wrapping_add(half, half), low as i32)
+// A sample of a side.
+pub(crate) trait Seeded: Copy + Default + Into<i32> {
+    // The sample that follows a seed, and the seed after it.
+    fn after(seed: u64) -> (Self, u64);
+}
+
+impl Seeded for i16 {
+    fn after(seed: u64) -> (i16, u64) {
+        let next = next_seed(seed);
+        (bits_of(next).cast_signed(), next)
+    }
+}
+
+// Two halves, the upper one first; each takes a step of the seed.
+impl Seeded for i32 {
+    fn after(seed: u64) -> (i32, u64) {
+        let high = next_seed(seed);
+        let low = next_seed(high);
+        let bits = (bits_of(high) as u32) * 65536 + (bits_of(low) as u32);
+        (bits.cast_signed(), low)
+    }
 }
 
 // Puts samples from a seed, and answers the seed after them.
-pub(crate) fn fill(samples: &mut [i16], seed: u64) -> u64 {
-    let mut x = seed;
+pub(crate) fn fill<T: Seeded>(samples: &mut [T], seed: u64) -> u64 {
+    let mut last = seed;
     for sample in samples.iter_mut() {
-        x = next_seed(x);
-        *sample = num::signed16(bits_of(x));
+        let (value, next) = T::after(last);
+        *sample = value;
+        last = next;
     }
-    x
-}
-
-// The same of 32 bits; each takes two steps of the seed.
-pub(crate) fn fill_wide(samples: &mut [i32], seed: u64) -> u64 {
-    let mut x = seed;
-    for sample in samples.iter_mut() {
-        let y = next_seed(x);
-        x = next_seed(y);
-        *sample = wide(bits_of(y), bits_of(x));
-    }
-    x
+    last
 }

@@ -42,7 +42,7 @@ fn oscillator_of(line: &[u64]) -> Oscillator {
         phase: fields::long(line, 17),
         old_phase: fields::long(line, 18),
         lfsr_state: fields::word(line, 19),
-        last_sample: num::signed16(fields::short(line, 20)),
+        last_sample: fields::short(line, 20).cast_signed(),
         slew_current: fields::short(line, 21),
     }
 }
@@ -51,7 +51,7 @@ fn fifo_of(line: &[u64]) -> Fifo {
     Fifo {
         head: fields::size(line, 26),
         count: fields::size(line, 27),
-        held: num::signed16(fields::short(line, 22)),
+        held: fields::short(line, 22).cast_signed(),
         hold: fields::word(line, 23),
         sub: fields::byte(line, 24),
         latch: fields::byte(line, 25),
@@ -72,8 +72,8 @@ pub(crate) fn ring_of(fifo: Fifo) -> Ring
     ensures others { result.others ≤ fifo_capacity }
 {
     let head = fifo.head % FIFO_CAPACITY;
-    let count = num::least(fifo.count, FIFO_CAPACITY);
-    let oldest = num::least(count, FIFO_CAPACITY - head);
+    let count = fifo.count.min(FIFO_CAPACITY);
+    let oldest = count.min(FIFO_CAPACITY - head);
     Ring {
         head,
         oldest,
@@ -142,7 +142,7 @@ fn cache_of(line: &[u64]) -> StreamCache {
         odd: cached_of(fields::long(line, 10)),
         next_frame: fields::size(line, 11),
         decoder: State {
-            predictor: num::signed16(fields::short(line, 12)),
+            predictor: fields::short(line, 12).cast_signed(),
             index: fields::size(line, 13),
         },
     }

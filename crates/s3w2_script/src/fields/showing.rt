@@ -4,6 +4,7 @@ use crate::fields::setting::ring_of;
 use crate::fields::writing;
 use adpcm::Variant;
 use cores::{CHIP_QUEUES, CHIP_VOICES};
+use output::Output;
 use registers::{Fifo, PcmRegisters, Registers};
 use sizes::FIFO_CAPACITY;
 use stream::StreamCache;
@@ -31,7 +32,7 @@ fn pcm_numbers(p: PcmRegisters) -> [u64; 6] {
         p.loop_addr as u64,
         p.control as u64,
         p.sample_control as u64,
-        writing::flag_number(p.active),
+        u64::from(p.active),
     ]
 }
 
@@ -74,7 +75,7 @@ fn cache_numbers(s: StreamCache) -> [u64; 12] {
     let odd = s.odd;
     let decoder = s.decoder;
     [
-        writing::flag_number(s.valid),
+        u64::from(s.valid),
         info.version as u64,
         held_number(held),
         info.sample_count as u64,
@@ -89,71 +90,61 @@ fn cache_numbers(s: StreamCache) -> [u64; 12] {
     ]
 }
 
-fn put_registers(out: &mut [u8], at: usize, c: Channel) -> usize {
-    let registers = registers_numbers(c.registers);
-    let pcm = pcm_numbers(c.pcm);
-    let end = writing::put_numbers(&mut *out, at, &registers);
-    writing::put_numbers(out, end, &pcm)
+fn put_registers(out: &mut Output<'_>, c: Channel) {
+    writing::put_numbers(&mut *out, &registers_numbers(c.registers));
+    writing::put_numbers(out, &pcm_numbers(c.pcm));
 }
 
 // The phase may be any number of 64 bits.
-fn put_channel(out: &mut [u8], at: usize, c: Channel) -> usize {
+fn put_channel(out: &mut Output<'_>, c: Channel) {
     let oscillator = c.oscillator;
-    let moving = moving_numbers(c);
-    let cache = cache_numbers(c.stream);
-    let first = put_registers(&mut *out, at, c);
-    let second = writing::put(&mut *out, first, oscillator.phase);
-    let third = writing::put_numbers(&mut *out, second, &moving);
-    writing::put_numbers(out, third, &cache)
+    put_registers(&mut *out, c);
+    writing::put(&mut *out, oscillator.phase);
+    writing::put_numbers(&mut *out, &moving_numbers(c));
+    writing::put_numbers(out, &cache_numbers(c.stream));
 }
 
 // The queue's count and its entries, oldest first.
-fn put_queue(out: &mut [u8], at: usize, f: Fifo, queues: &[i16], voice: usize) -> usize {
-    let first = writing::put(&mut *out, at, f.count as u64);
+fn put_queue(out: &mut Output<'_>, f: Fifo, queues: &[i16], voice: usize) {
+    writing::put(&mut *out, f.count as u64);
     if queues.len() < CHIP_QUEUES {
-        return first;
+        return;
     }
     let from = voice % CHIP_VOICES * FIFO_CAPACITY;
     let own = &queues[from..from + FIFO_CAPACITY];
     let r = ring_of(f);
-    let second = writing::put_samples(&mut *out, first, &own[r.head..r.head + r.oldest]);
-    writing::put_samples(out, second, &own[..r.others])
+    writing::put_samples(&mut *out, &own[r.head..r.head + r.oldest]);
+    writing::put_samples(out, &own[..r.others]);
 }
 
 // A voice's registers, its state and its wavetable.
-fn put_first(core: Core, k: usize, out: &mut [u8], at: usize) -> usize {
+fn put_first(out: &mut Output<'_>, core: Core, k: usize) {
     let ch = k % 8;
     let c = core.channels[ch];
-    let end = put_channel(&mut *out, at, c);
-    writing::put_bytes(
-        out,
-        end,
-        num::part(&core.wavetables, 256 * ch, 256 * ch + 256),
-    )
+    put_channel(&mut *out, c);
+    writing::put_bytes(out, num::part(&core.wavetables, 256 * ch, 256 * ch + 256));
 }
 
 // Its queue and its decoded fragments.
-fn put_last(core: Core, voice: usize, queues: &[i16], out: &mut [u8], at: usize) -> usize {
+fn put_last(out: &mut Output<'_>, core: Core, voice: usize, queues: &[i16]) {
     let ch = voice % 8;
     let c = core.channels[ch];
-    let end = put_queue(&mut *out, at, c.fifo, queues, voice);
+    put_queue(&mut *out, c.fifo, queues, voice);
     let fragments = core.fragments;
-    writing::put_samples(out, end, &fragments[128 * ch..128 * ch + 128])
+    writing::put_samples(out, &fragments[128 * ch..128 * ch + 128]);
 }
 
 // Puts the voice that a D line names, of the core of a number; of another line nothing.
 pub(crate) fn put_voice(
+    out: &mut Output<'_>,
     core: Core,
     number: usize,
     line: &[u64],
     queues: &[i16],
-    out: &mut [u8],
-    at: usize,
-) -> usize {
-    if letter(line) != b'D' {
-        return at;
+) {
+    if letter(line) == b'D' {
+        let k = size(line, 1) % 8;
+        put_first(&mut *out, core, k);
+        put_last(out, core, 8 * (number % 2) + k, queues);
     }
-    let k = size(line, 1) % 8;
-    let end = put_first(core, k, &mut *out, at);
-    put_last(core, 8 * (number % 2) + k, queues, out, end)
 }

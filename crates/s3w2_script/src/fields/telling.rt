@@ -6,10 +6,10 @@ use version::SguVersion;
 // The version that the line's bytes name, 64 of them at most; 9 for none.
 fn named(line: &[u64]) -> u8 {
     let mut name = [0u8; 64];
-    for (i, letter) in name.iter_mut().enumerate() {
-        *letter = byte(line, i + 1);
+    for (letter, field) in name.iter_mut().zip(line.iter().skip(1)) {
+        *letter = (*field % 256) as u8;
     }
-    let count = std::num::wrapping_sub_usize(line.len(), 1);
+    let count = line.len().saturating_sub(1);
     match SguVersion::parse(num::part(&name, 0, count)) {
         Some(version) => u8::from(version),
         None => 9,
@@ -23,8 +23,8 @@ fn summed(sum: u32, x: u8) -> u32 {
 // A sum over the RAM.
 fn sum_of(ram: &[u8]) -> u32 {
     let mut sum = 0u32;
-    for x in ram {
-        sum = summed(sum, *x);
+    for &x in ram {
+        sum = summed(sum, x);
     }
     sum
 }
@@ -34,9 +34,7 @@ fn absolute(line: &[u64]) -> usize {
 }
 
 fn saturated(line: &[u64]) -> u64 {
-    let bits = word(line, 1);
-    let x = crate::fields::seeds::wide((bits / 65536) as u16, (bits % 65536) as u16);
-    writing::sample_bits(tone::saturate_output(x))
+    writing::sample_bits(tone::saturate_output(word(line, 1).cast_signed()))
 }
 
 fn number_told(line: &[u64], ram: &[u8]) -> u64 {
@@ -54,8 +52,5 @@ pub(crate) fn told(line: &[u64], ram: &[u8]) -> Figures {
         return Figures::One(number_told(line, ram));
     }
     let version = crate::fields::reading::version(line);
-    Figures::Two(
-        version.core_count() as u64,
-        writing::flag_number(version.has_34si22()),
-    )
+    Figures::Two(version.core_count() as u64, u64::from(version.has_34si22()))
 }

@@ -1,77 +1,60 @@
 // An answer's fields, each after a comma, and samples as numbers.
 use crate::fields::Figures;
+use output::Output;
 
 // A number in two's complement.
 pub(crate) fn bits(x: i32) -> u64 {
-    let size = num::magnitude(x) as u64;
-    if x < 0 {
-        return std::num::wrapping_sub_u64(0, size);
-    }
-    size
-}
-
-pub(crate) fn flag_number(x: bool) -> u64 {
-    if x { 1 } else { 0 }
-}
-
-// Puts a number that is not negative.
-pub(crate) fn put(out: &mut [u8], at: usize, n: u64) -> usize {
-    let end = decimal::put_byte(&mut *out, at, 44);
-    decimal::put_natural(out, end, n)
-}
-
-// Puts any number.
-fn put_number(out: &mut [u8], at: usize, n: u64) -> usize {
-    if n < 0x8000_0000_0000_0000 {
-        return put(out, at, n);
-    }
-    let end = decimal::put_text(&mut *out, at, b",-");
-    decimal::put_natural(out, end, std::num::wrapping_sub_u64(0, n))
-}
-
-pub(crate) fn put_numbers(out: &mut [u8], at: usize, numbers: &[u64]) -> usize {
-    let mut end = at;
-    for n in numbers {
-        end = put_number(&mut *out, end, *n);
-    }
-    end
-}
-
-// Puts an answer's numbers.
-pub(crate) fn put_figures(out: &mut [u8], at: usize, figures: Figures) -> usize {
-    match figures {
-        Figures::Nothing => at,
-        Figures::One(n) => put_number(out, at, n),
-        Figures::Two(n, m) => {
-            let end = put_number(&mut *out, at, n);
-            put_number(out, end, m)
-        }
-    }
-}
-
-// Puts those of a refusal, behind its word.
-pub(crate) fn put_refused(out: &mut [u8], at: usize, figures: Figures) -> usize {
-    let end = decimal::put_text(&mut *out, at, b",no");
-    put_figures(out, end, figures)
+    (x as i64).cast_unsigned()
 }
 
 pub(crate) fn sample_bits(x: i16) -> u64 {
     bits(x as i32)
 }
 
-pub(crate) fn put_samples(out: &mut [u8], at: usize, samples: &[i16]) -> usize {
-    let mut end = at;
-    for x in samples {
-        end = put_number(&mut *out, end, sample_bits(*x));
-    }
-    end
+// Puts a number that is not negative.
+pub(crate) fn put(out: &mut Output<'_>, n: u64) {
+    out.put_byte(44);
+    decimal::put_natural(out, n);
 }
 
-pub(crate) fn put_bytes(out: &mut [u8], at: usize, bytes: &[u8]) -> usize {
-    let mut end = at;
-    for x in bytes {
-        let byte = *x;
-        end = put(&mut *out, end, byte as u64);
+// Puts any number, which is told in two's complement.
+fn put_number(out: &mut Output<'_>, n: u64) {
+    out.put_byte(44);
+    decimal::put_number(out, n.cast_signed());
+}
+
+pub(crate) fn put_numbers(out: &mut Output<'_>, numbers: &[u64]) {
+    for &n in numbers {
+        put_number(&mut *out, n);
     }
-    end
+}
+
+// Puts an answer's numbers.
+pub(crate) fn put_figures(out: &mut Output<'_>, figures: Figures) {
+    match figures {
+        Figures::Nothing => {}
+        Figures::One(n) => put_number(out, n),
+        Figures::Two(n, m) => {
+            put_number(&mut *out, n);
+            put_number(out, m);
+        }
+    }
+}
+
+// Puts the number of a refusal, behind its word.
+pub(crate) fn put_refused(out: &mut Output<'_>, number: u8) {
+    out.put_bytes(b",no");
+    put(out, number as u64);
+}
+
+pub(crate) fn put_samples(out: &mut Output<'_>, samples: &[i16]) {
+    for &x in samples {
+        put_number(&mut *out, sample_bits(x));
+    }
+}
+
+pub(crate) fn put_bytes(out: &mut Output<'_>, bytes: &[u8]) {
+    for &x in bytes {
+        put(&mut *out, x as u64);
+    }
 }

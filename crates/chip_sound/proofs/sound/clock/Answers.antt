@@ -45,39 +45,39 @@ loop-done-init c =
 
 pub slice_bounds-run_core-end : goal.slice_bounds-run_core-end
 slice_bounds-run_core-end c =
-    let end_in : 16 * c.least-count.result ≤ 4096 = omega (arith, c.least-count.ensures) in
+    let end_in : 16 * c.min-count.result ≤ 4096 = omega (arith, c.min-count.ensures) in
     prefix-length _ _ (omega (arith, end_in, c.loop-done.invariant.1))
 
 pub slice_bounds-second-end : goal.slice_bounds-second-end
 slice_bounds-second-end c =
-    let end_in : 16 * c.least-count.result ≤ 4096 = omega (arith, c.least-count.ensures) in
-    let room_in : c.room-more.result ≤ 4096 = omega (arith, room_most c.second_sounds-sounds.result (16 * c.least-count.result) c.room-more.result c.room-more.ensures) in
+    let end_in : 16 * c.min-count.result ≤ 4096 = omega (arith, c.min-count.ensures) in
+    let room_in : c.room-more.result ≤ 4096 = omega (arith, room_most c.second_sounds-sounds.result (16 * c.min-count.result) c.room-more.result c.room-more.ensures) in
     omega (arith, room_in, c.loop-done.invariant.2)
 
 pub slice_bounds-run_core-end-in-loop-done : goal.slice_bounds-run_core-end-in-loop-done
 slice_bounds-run_core-end-in-loop-done c =
-    let end_in : 16 * c.least-count.result ≤ 4096 = omega (arith, c.least-count.ensures) in
-    let room_in : c.room-more.result ≤ 4096 = omega (arith, room_most c.second_sounds-sounds.result (16 * c.least-count.result) c.room-more.result c.room-more.ensures) in
+    let end_in : 16 * c.min-count.result ≤ 4096 = omega (arith, c.min-count.ensures) in
+    let room_in : c.room-more.result ≤ 4096 = omega (arith, room_most c.second_sounds-sounds.result (16 * c.min-count.result) c.room-more.result c.room-more.ensures) in
     prefix-length _ _ (omega (arith, room_in, c.loop-done.invariant.2))
 
 pub slice_bounds-second-end-in-loop-done : goal.slice_bounds-second-end-in-loop-done
 slice_bounds-second-end-in-loop-done c =
-    let end_in : 16 * c.least-count.result ≤ 4096 = omega (arith, c.least-count.ensures) in
-    let room_in : c.room-more.result ≤ 4096 = omega (arith, room_most c.second_sounds-sounds.result (16 * c.least-count.result) c.room-more.result c.room-more.ensures) in
+    let end_in : 16 * c.min-count.result ≤ 4096 = omega (arith, c.min-count.ensures) in
+    let room_in : c.room-more.result ≤ 4096 = omega (arith, room_most c.second_sounds-sounds.result (16 * c.min-count.result) c.room-more.result c.room-more.ensures) in
     let two_long : length (c.run_core-two.new.stems ++ drop c.room-more.result c.loop-done.second) ≡ 4096 = ran-long c.args.chip.version c.args.ram.now c.run_core-one.new.queues 1 c.loop-done.two c.run_core-two.result c.room-more.result c.loop-done.second c.run_core-two.new.stems (record { result = c.run_core-two.ensures.result; given = c.run_core-two.ensures.stems; accepted = c.run_core-two.ensures.ram_value }) c.loop-done.invariant.2 room_in in
     omega (arith, two_long, end_in)
 
 pub loop-done-preserved : goal.loop-done-preserved
 loop-done-preserved c =
-    let end_in : 16 * c.least-count.result ≤ 4096 = omega (arith, c.least-count.ensures) in
-    let room_in : c.room-more.result ≤ 4096 = omega (arith, room_most c.second_sounds-sounds.result (16 * c.least-count.result) c.room-more.result c.room-more.ensures) in
-    let one_long : length (c.run_core-one.new.stems ++ drop (16 * c.least-count.result) c.loop-done.first) ≡ 4096 = ran-long c.args.chip.version c.args.ram.now c.loop-done.queues 0 c.loop-done.one c.run_core-one.result (16 * c.least-count.result) c.loop-done.first c.run_core-one.new.stems (record { result = c.run_core-one.ensures.result; given = c.run_core-one.ensures.stems; accepted = c.run_core-one.ensures.ram_value }) c.loop-done.invariant.1 end_in in
+    let end_in : 16 * c.min-count.result ≤ 4096 = omega (arith, c.min-count.ensures) in
+    let room_in : c.room-more.result ≤ 4096 = omega (arith, room_most c.second_sounds-sounds.result (16 * c.min-count.result) c.room-more.result c.room-more.ensures) in
+    let one_long : length (c.run_core-one.new.stems ++ drop (16 * c.min-count.result) c.loop-done.first) ≡ 4096 = ran-long c.args.chip.version c.args.ram.now c.loop-done.queues 0 c.loop-done.one c.run_core-one.result (16 * c.min-count.result) c.loop-done.first c.run_core-one.new.stems (record { result = c.run_core-one.ensures.result; given = c.run_core-one.ensures.stems; accepted = c.run_core-one.ensures.ram_value }) c.loop-done.invariant.1 end_in in
     let two_long : length (c.run_core-two.new.stems ++ drop c.room-more.result c.loop-done.second) ≡ 4096 = ran-long c.args.chip.version c.args.ram.now c.run_core-one.new.queues 1 c.loop-done.two c.run_core-two.result c.room-more.result c.loop-done.second c.run_core-two.new.stems (record { result = c.run_core-two.ensures.result; given = c.run_core-two.ensures.stems; accepted = c.run_core-two.ensures.ram_value }) c.loop-done.invariant.2 room_in in
     let kept : ◌≡◌ {A = List ℤ} c.run_core-one.new.queues c.args.queues.now = c.run_core-one.ensures.queues ∙ c.loop-done.invariant.3 in
     let a = c.args in
     let l = c.loop-done in
     let sounds = c.second_sounds-sounds.result in
-    let count = c.least-count in
+    let count = c.min-count in
     let room = c.room-more in
     let f = c.run_core-one in
     let g = c.run_core-two in

@@ -62,4 +62,4 @@ returns-clause-called c =
     let off = c.turned_off-ended in
     let f : SFits w16 tick.result.sample = search rules in
     let given = sample-some a.chip a.ram.now a.queues.now a.core a.ch (omega (arith, count.ensures, c.if-core_count-core.false)) tick.result.core tick.result.sample off.result c.if-ch-gt-LAST_CHANNEL.false lent tick.ensures.result off.ensures in
-    (goes-called r.result _ r.ensures _ _ _ done (c.with_core.ensures ∙ ap (λ (x : ℤ). answered (with_core_at a.chip a.core tick.result.core) (Ok (Sample x off.result))) (back w16 tick.result.sample f) ∙ given))
+    (goes-called r.result _ r.ensures _ _ _ done (c.answers-2.ensures ∙ ap (λ (x : ℤ). answered (with_core_at a.chip a.core tick.result.core) (Ok (Sample x off.result))) (back w16 tick.result.sample f) ∙ given))

@@ -1,7 +1,8 @@
-use Rattle.std.proofs.Common.{length, refl, ap, ◌∙◌, arith}
+use Rattle.std.proofs.Common.{length, refl, ap, ◌∙◌, subst, arith}
 use lib.Seq.{sets}
 use Rattle.voices.proofs.Accepting.{accepted-core, core-accepted}
-use Rattle.frames.specs.Listing.{Listed, lent_list}
+use Rattle.frames.specs.Listing.{Listed, lent_list, after_list, AcceptedAfter}
+use Rattle.frames.specs.declared.Going.{Going}
 use Rattle.frames.proofs.Fits.{sized}
 use Rattle.frames.proofs.Runs.{RunStored, run-none, stored-by, ran-none, run_room, stored-accepted, run-made, ran-all, all-before}
 use Rattle.frames.proofs.lists.play_runs.Goals as goal
@@ -50,8 +51,9 @@ loop-i-preserved c =
     let j = c.if-i-end in
     let q = c.run_end-to in
     let s = stored (goal.at.loop-i-preserved c).Joined-i-end in
-    let k = c.play_calls-p.ensures in (
-      run-made a.kinds.now a.addresses.now a.count (lent_list a.core a.version a.ram.now a.queues.now a.values.now) a.stems.now refl l.core l.version l.ram l.queues l.values l.stems l.i l.at g r.result q.result r.ensures.bounds.0 q.ensures.bounds.0 q.ensures.bounds.1 l.invariant.2 r.ensures.run j.ram j.core s.bytes s.caches q.ensures.run _ _ _ _ _ _ k.core k.version k.queues k.values k.stems k.at k.accepted_core k.each_accepted k.queues_len_unchanged.0 k.queues_len_unchanged.1,
+    let k = c.play_calls-p.ensures in
+    let e = k.result in (
+      run-made a.kinds.now a.addresses.now a.count (lent_list a.core a.version a.ram.now a.queues.now a.values.now) a.stems.now refl l.core l.version l.ram l.queues l.values l.stems l.i l.at g r.result q.result r.ensures.bounds.0 q.ensures.bounds.0 q.ensures.bounds.1 l.invariant.2 r.ensures.run j.ram j.core s.bytes s.caches q.ensures.run _ _ _ _ _ _ (ap (λ (g : Going). g.core) e) (ap (λ (g : Going). g.version) e) k.left.queues_is k.left.values_is k.left.stems_is (ap (λ (g : Going). g.at) e) k.accepted_core k.each_accepted k.queues_len_unchanged.0 k.queues_len_unchanged.1,
       l.invariant.1,
       l.invariant.2,
       l.invariant.3,
@@ -65,13 +67,13 @@ returns c =
     let g = l.invariant.0 in
     let o = ran-all a.kinds.now a.addresses.now a.count (lent_list a.core a.version a.ram.now a.queues.now a.values.now) a.stems.now refl l.core l.version l.ram l.queues l.values l.stems l.i l.at g c.loop-i-test.false in
     record {
-      core = ap (λ (s : Listed). s.core) o;
-      version = ap (λ (s : Listed). s.version) o;
-      ram = ap (λ (s : Listed). s.ram) o;
-      queues = ap (λ (s : Listed). s.queues) o;
-      values = ap (λ (s : Listed). s.values) o;
-      stems = g.filled ∙ ap (λ (s : Listed). sets a.stems.now 0 s.stems) o;
+      result = ap (λ (s : Listed). after_list s) o;
+      left = record {
+        ram_is = ap (λ (s : Listed). s.ram) o;
+        queues_is = ap (λ (s : Listed). s.queues) o;
+        values_is = ap (λ (s : Listed). s.values) o;
+        stems_is = g.filled ∙ ap (λ (s : Listed). sets a.stems.now 0 s.stems) o;
+      };
       each_accepted = all-before a.kinds.now a.addresses.now a.count (lent_list a.core a.version a.ram.now a.queues.now a.values.now) a.stems.now refl l.core l.version l.ram l.queues l.values l.stems l.i l.at g c.loop-i-test.false;
-      ram_value = core-accepted l.core l.version (length a.ram.now) g.accepted;
-      made = refl;
+      ram_value = subst (λ (s : Listed). AcceptedAfter s (length a.ram.now)) o (core-accepted l.core l.version (length a.ram.now) g.accepted);
     }

@@ -1,17 +1,17 @@
-use Rattle.std.proofs.Common.{◌≡◌, ◌+◌, ◌≤◌, true, eqb, length, get_or, sym, refl, ap, ◌∙◌, arith, rules}
+use Rattle.std.proofs.Common.{◌≡◌, ◌+◌, ◌≤◌, true, length, get_or, sym, refl, ap, ◌∙◌, arith, rules}
 use lib.Seq.{sets, length-sets}
 use Rattle.ticks.proofs.Sums.{stem-fits}
 use Rattle.voices.proofs.Accepting.{accepted-core}
 use Rattle.voices.proofs.Listed.{wrote-wavetable, wrote-block, wrote-above}
 use Rattle.voices.proofs.Storing.{stored-emptied, stored-kept}
-use Rattle.frames.specs.Listing.{read_register_kind, Listed, lent_list}
-use Rattle.frames.proofs.Calling.{Begins, begins-by, nothing-begins, clock-begins, store-none, write-begins, look-begins, version-begins, look-byte, look-emptied, look-kept}
+use Rattle.frames.specs.Listing.{Listed, lent_list, after_calls}
+use Rattle.frames.proofs.Calling.{Begins, begins-by, nothing-begins, clock-begins, store-none, write-begins, read-begins, peek-begins, version-begins, look-byte, read-emptied, read-kept}
 use Rattle.frames.proofs.Fits.{sized, bytes}
 use Rattle.frames.proofs.Playing.{standing, begin, has-room, turn-made, over, placed, each-before, call-begun, less-left, clocked-most}
 use Rattle.frames.proofs.Turns.{Turn, silent-turn, sound-turn, queue-turn, served-most, served-turn, stream-turn, turn_by}
 use Rattle.frames.proofs.loops.play_calls.Goals as goal
 use Rattle.frames.proofs.loops.play_calls.Goals.{Joined-kind, Joined-from, in-Silent, in-Oscillator, in-Sqv4+then-r-n, in-Sqv4+else-r-n, in-FifoDac}
-use Rattle.frames.proofs.loops.play_calls.Goals.{in-WritePcmRam, in-WriteRegister+then-address-lt2048, in-WriteRegister+else-address-lt2048+then-address-lt2304+then-empties, in-WriteRegister+else-address-lt2048+then-address-lt2304+else-empties, in-WriteRegister+else-address-lt2048+else-address-lt2304, in-Look+then-look_empties, in-Look+else-look_empties, in-Clock, in-SetVersion, in-Nothing}
+use Rattle.frames.proofs.loops.play_calls.Goals.{in-WritePcmRam, in-WriteRegister+then-address-lt2048, in-WriteRegister+else-address-lt2048+then-address-lt2304+then-empties, in-WriteRegister+else-address-lt2048+then-address-lt2304+else-empties, in-WriteRegister+else-address-lt2048+else-address-lt2304, in-Read+then-read_empties, in-Read+else-read_empties, in-Peek, in-Clock, in-SetVersion, in-Nothing}
 
 pub loop-turn-init : goal.loop-turn-init
 loop-turn-init c =
@@ -113,7 +113,6 @@ called c =
     let address = get_or a.addresses.now l.i 0 in
     let value = get_or l.values l.i 0 in
     let ask = sym c.from.ensures in
-    let is_read = eqb (get_or a.kinds.now l.i 0) read_register_kind in
     let now = standing a.ram.now l.core l.version l.queues l.values g.gave in
     elim c.match-from.branch [
       | in-WritePcmRam w ↦ begins-by a.kinds.now a.addresses.now a.first a.n l.i now (λ j. standing a.ram.now (w.core-is j) (w.version-is j) (w.queues-is j) (w.values-is j) g.gave) w.stop-is (store-none a.kinds.now a.addresses.now a.first a.n l.i now g.ready (ask ∙ w.in-WritePcmRam.is) (c.requires.fact_5 l.i (omega (arith, g.begun)) (omega (arith, c.if-to-i.false))))
@@ -121,8 +120,9 @@ called c =
       | in-WriteRegister+else-address-lt2048+then-address-lt2304+then-empties w ↦ begins-by a.kinds.now a.addresses.now a.first a.n l.i now (λ j. standing a.ram.now (w.core-is j) (w.version-is j) (w.queues-is j) (w.values-is j) g.gave) w.stop-is (write-begins a.kinds.now a.addresses.now a.first a.n l.i now g.ready (ask ∙ w.in-WriteRegister.is) _ _ (wrote-block l.version l.core l.queues address value _ _ w.channel_of-ch.result w.offset_of-offset.result w.write_at-d.result w.empties.result w.write_at-d.new.queue g.entries w.if-address-lt2048.false w.if-address-lt2304.true w.channel_of-ch.ensures.1 w.channel_of-ch.ensures.0 w.offset_of-offset.ensures w.write_at-d.ensures.0 w.empties.ensures w.write_at-d.ensures.1 (stored-emptied l.core w.channel_of-ch.result w.write_at-d.result w.empties.result w.clear_fragments.new.samples w.if-empties.true w.clear_fragments.ensures) refl) (search rules))
       | in-WriteRegister+else-address-lt2048+then-address-lt2304+else-empties w ↦ begins-by a.kinds.now a.addresses.now a.first a.n l.i now (λ j. standing a.ram.now (w.core-is j) (w.version-is j) (w.queues-is j) (w.values-is j) g.gave) w.stop-is (write-begins a.kinds.now a.addresses.now a.first a.n l.i now g.ready (ask ∙ w.in-WriteRegister.is) _ _ (wrote-block l.version l.core l.queues address value _ _ w.channel_of-ch.result w.offset_of-offset.result w.write_at-d.result w.empties.result w.write_at-d.new.queue g.entries w.if-address-lt2048.false w.if-address-lt2304.true w.channel_of-ch.ensures.1 w.channel_of-ch.ensures.0 w.offset_of-offset.ensures w.write_at-d.ensures.0 w.empties.ensures w.write_at-d.ensures.1 (stored-kept l.core w.channel_of-ch.result w.write_at-d.result w.empties.result w.if-empties.false) refl) (search rules))
       | in-WriteRegister+else-address-lt2048+else-address-lt2304 w ↦ begins-by a.kinds.now a.addresses.now a.first a.n l.i now (λ j. standing a.ram.now (w.core-is j) (w.version-is j) (w.queues-is j) (w.values-is j) g.gave) w.stop-is (write-begins a.kinds.now a.addresses.now a.first a.n l.i now g.ready (ask ∙ w.in-WriteRegister.is) _ _ (wrote-above l.version l.core l.queues address value _ _ w.if-address-lt2048.false w.if-address-lt2304.false refl refl) (search rules))
-      | in-Look+then-look_empties w ↦ begins-by a.kinds.now a.addresses.now a.first a.n l.i now (λ j. standing a.ram.now (w.core-is j) (w.version-is j) (w.queues-is j) (w.values-is j) g.gave) w.stop-is (look-begins a.kinds.now a.addresses.now a.first a.n l.i now g.ready (ask ∙ w.in-Look.is) _ _ (look-emptied l.core address w.channel_of-ch-in-Look.result w.channel_of-ch-in-Look.ensures.0 is_read w.look_empties.result w.after_read.result _ w.look_empties.ensures w.if-look_empties.true w.after_read.ensures (stored-emptied l.core w.channel_of-ch-in-Look.result w.after_read.result true w.clear_fragments-then-look_empties.new.samples refl w.clear_fragments-then-look_empties.ensures)) (look-byte l.core address w.channel_of-ch-in-Look.result w.channel_of-ch-in-Look.ensures.0 l.version w.seen.result w.seen.ensures))
-      | in-Look+else-look_empties w ↦ begins-by a.kinds.now a.addresses.now a.first a.n l.i now (λ j. standing a.ram.now (w.core-is j) (w.version-is j) (w.queues-is j) (w.values-is j) g.gave) w.stop-is (look-begins a.kinds.now a.addresses.now a.first a.n l.i now g.ready (ask ∙ w.in-Look.is) _ _ (look-kept l.core address w.channel_of-ch-in-Look.result w.channel_of-ch-in-Look.ensures.0 is_read w.look_empties.result w.look_empties.ensures w.if-look_empties.false) (look-byte l.core address w.channel_of-ch-in-Look.result w.channel_of-ch-in-Look.ensures.0 l.version w.seen.result w.seen.ensures))
+      | in-Read+then-read_empties w ↦ begins-by a.kinds.now a.addresses.now a.first a.n l.i now (λ j. standing a.ram.now (w.core-is j) (w.version-is j) (w.queues-is j) (w.values-is j) g.gave) w.stop-is (read-begins a.kinds.now a.addresses.now a.first a.n l.i now g.ready (ask ∙ w.in-Read.is) _ _ (read-emptied l.core address w.channel_of-ch-in-Read.result w.channel_of-ch-in-Read.ensures.0 w.read_empties.result w.after_read.result _ w.read_empties.ensures w.if-read_empties.true w.after_read.ensures (stored-emptied l.core w.channel_of-ch-in-Read.result w.after_read.result true w.clear_fragments-then-read_empties.new.samples refl w.clear_fragments-then-read_empties.ensures)) (look-byte l.core address w.channel_of-ch-in-Read.result w.channel_of-ch-in-Read.ensures.0 l.version w.seen.result w.seen.ensures))
+      | in-Read+else-read_empties w ↦ begins-by a.kinds.now a.addresses.now a.first a.n l.i now (λ j. standing a.ram.now (w.core-is j) (w.version-is j) (w.queues-is j) (w.values-is j) g.gave) w.stop-is (read-begins a.kinds.now a.addresses.now a.first a.n l.i now g.ready (ask ∙ w.in-Read.is) _ _ (read-kept l.core address w.channel_of-ch-in-Read.result w.channel_of-ch-in-Read.ensures.0 w.read_empties.result w.read_empties.ensures w.if-read_empties.false) (look-byte l.core address w.channel_of-ch-in-Read.result w.channel_of-ch-in-Read.ensures.0 l.version w.seen.result w.seen.ensures))
+      | in-Peek w ↦ begins-by a.kinds.now a.addresses.now a.first a.n l.i now (λ j. standing a.ram.now (w.core-is j) (w.version-is j) (w.queues-is j) (w.values-is j) g.gave) w.stop-is (peek-begins a.kinds.now a.addresses.now a.first a.n l.i now g.ready (ask ∙ w.in-Peek.is) _ (look-byte l.core address w.channel_of.result w.channel_of.ensures.0 l.version w.seen-in-Peek.result w.seen-in-Peek.ensures))
       | in-Clock w ↦ begins-by a.kinds.now a.addresses.now a.first a.n l.i now (λ j. standing a.ram.now (w.core-is j) (w.version-is j) (w.queues-is j) (w.values-is j) g.gave) w.stop-is (clock-begins a.kinds.now a.addresses.now a.first a.n l.i now g.ready (ask ∙ w.in-Clock.is))
       | in-SetVersion w ↦ begins-by a.kinds.now a.addresses.now a.first a.n l.i now (λ j. standing a.ram.now (w.core-is j) (w.version-is j) (w.queues-is j) (w.values-is j) g.gave) w.stop-is (version-begins a.kinds.now a.addresses.now a.first a.n l.i now g.ready (ask ∙ w.in-SetVersion.is) _ _ w.from-version.ensures w.set_version-core.ensures)
       | in-Nothing w ↦ begins-by a.kinds.now a.addresses.now a.first a.n l.i now (λ j. standing a.ram.now (w.core-is j) (w.version-is j) (w.queues-is j) (w.values-is j) g.gave) w.stop-is (nothing-begins a.kinds.now a.addresses.now a.first a.n l.i now g.ready (ask ∙ w.in-Nothing.is))
@@ -160,13 +160,15 @@ returns-then-to-i c =
     let stop = c.if-turn-stop.false in
     let last = c.if-to-i.true in
     let o = over a.kinds.now a.addresses.now a.first a.n a.turns a.from a.to a.ram.now (lent_list a.core a.version a.ram.now a.queues.now a.values.now) a.stems.now a.at (length a.values.now) l.core l.version l.queues l.values l.stems l.place l.i l.turn l.stop g stop last in
+    let p = placed a.kinds.now a.addresses.now a.first a.n a.turns a.from a.to a.ram.now (lent_list a.core a.version a.ram.now a.queues.now a.values.now) a.stems.now a.at (length a.values.now) l.core l.version l.queues l.values l.stems l.place l.i l.turn l.stop g stop last in
     record {
-      core = ap (λ (s : Listed). s.core) o;
-      version = ap (λ (s : Listed). s.version) o;
-      queues = ap (λ (s : Listed). s.queues) o;
-      values = ap (λ (s : Listed). s.values) o;
-      stems = g.filled ∙ ap (λ (s : Listed). sets a.stems.now a.at s.stems) o;
-      at = placed a.kinds.now a.addresses.now a.first a.n a.turns a.from a.to a.ram.now (lent_list a.core a.version a.ram.now a.queues.now a.values.now) a.stems.now a.at (length a.values.now) l.core l.version l.queues l.values l.stems l.place l.i l.turn l.stop g stop last;
+      result = λ j. after_calls (o j) (p j);
+      left = record {
+        ram_is = ap (λ (s : Listed). s.ram) o;
+        queues_is = ap (λ (s : Listed). s.queues) o;
+        values_is = ap (λ (s : Listed). s.values) o;
+        stems_is = g.filled ∙ ap (λ (s : Listed). sets a.stems.now a.at s.stems) o;
+      };
       accepted_core = g.ready.accepted;
       each_accepted = each-before a.kinds.now a.addresses.now a.first a.n a.turns a.from a.to a.ram.now (lent_list a.core a.version a.ram.now a.queues.now a.values.now) a.stems.now a.at (length a.values.now) l.core l.version l.queues l.values l.stems l.place l.i l.turn l.stop g stop last;
       queues_len_unchanged = (g.entries ∙ sym c.requires.fact_2, g.long);

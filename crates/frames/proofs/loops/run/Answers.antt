@@ -5,6 +5,7 @@ use Rattle.voices.specs.Accepted.{AcceptedCore}
 use Rattle.voices.proofs.Accepting.{core-accepted}
 use Rattle.frames.specs.Turning.{Turns}
 use Rattle.frames.specs.Listing.{listed}
+use Rattle.frames.specs.declared.Going.{Going}
 use Rattle.frames.proofs.Asks.{may, ran, refused}
 use Rattle.frames.proofs.Counts.{frames-none}
 use Rattle.frames.proofs.loops.run.Goals as goal
@@ -22,12 +23,13 @@ returns-then-may_run c =
     let a = c.args in
     let t = c.play_calls-p in
     let k = t.ensures in
+    let r = k.result in
     let e = ran a.version a.ram.now a.queues.now a.ticks a.core a.first (length a.stems.now / 2) (sym c.may_run.ensures ∙ c.if-may_run.true) in
     record {
-      result = k.core ∙ ap (λ (t : Turns). t.core) e;
-      stems = k.stems ∙ ap (λ (t : Turns). sets a.stems.now 0 t.stems) e;
-      ram_value = λ h. core-accepted t.result.core a.version (length a.ram.now) (subst (λ (v : SguVersion). AcceptedCore t.result.core v (length a.ram.now)) k.version k.accepted_core);
-      queues = k.queues;
+      result = ap (λ (g : Going). g.core) r ∙ ap (λ (t : Turns). t.core) e;
+      stems = k.left.stems_is ∙ ap (λ (t : Turns). sets a.stems.now 0 t.stems) e;
+      ram_value = λ h. core-accepted t.result.core a.version (length a.ram.now) (subst (λ (v : SguVersion). AcceptedCore t.result.core v (length a.ram.now)) (ap (λ (g : Going). g.version) r) k.accepted_core);
+      queues = k.left.queues_is;
     }
 
 pub returns : goal.returns

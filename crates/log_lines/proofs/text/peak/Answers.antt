@@ -14,4 +14,4 @@ loop-value-init c = (omega arith, peak-none _ _)
 pub loop-value-preserved : goal.loop-value-preserved
 loop-value-preserved c =
     let fits : SFits w32 (get_or c.args.side.now c.loop-value.value-index (pos 0)) = search rules in
-    (omega arith, peak-next _ _ _ _ _ _ (rw (back w32 _ fits) at c.magnitude.ensures) c.loop-value.invariant.1 c.max-largest.ensures)
+    (omega arith, peak-next _ _ _ _ _ _ (rw (back w32 _ fits) at c.unsigned_abs.ensures.value) c.loop-value.invariant.1 c.max-largest.ensures)

@@ -1,11 +1,15 @@
 use borrow.Author.Rules.{rules}
-use Rattle.log_lines.proofs.Texts.{bad-put}
+use Rattle.output.proofs.Writing.{puts-append}
+use Rattle.log_lines.specs.Texts.{bad_line}
 use Rattle.log_lines.proofs.Lengths.{bad-length}
 use Rattle.log_lines.proofs.text.put_bad.Goals as goal
 
 pub returns-clause-put : goal.returns-clause-put
+unfolding bad_line
 returns-clause-put c =
-    (bad-put _ _ _ _ _ _ _ _ _ _ _ _ _ _ c.put_text-first.ensures c.put_natural-second.ensures c.put_byte-third.ensures c.put_natural-fourth.ensures c.put_byte.ensures)
+    puts-append _ _ _ _ _ c.put_bytes.ensures
+    (puts-append _ _ _ _ _ c.put_natural.ensures
+    (puts-append _ _ _ _ _ c.put_byte.ensures (puts-append _ _ _ _ _ c.put_natural-2.ensures c.put_byte-2.ensures)))
 
 pub returns-clause-bound : goal.returns-clause-bound
 returns-clause-bound c =

@@ -1,19 +1,45 @@
+use mathlib.Core.Path.{◌≡◌, refl, ap}
+use mathlib.Core.Logic.{inl, inr}
+use mathlib.Core.List.{[], ◌∷◌, ◌++◌}
+use Prim.Native.Nat.{◌+◌, min}
 use native.Mathlib.Omega.{arith}
-use lib.ListN.{get_or}
+use lib.ListN.{length, length-append, length-drop}
 use borrow.Author.Rules.{rules}
-use lib.IntN.{pos}
 use mir.Val.{SFits}
 use mir.Syntax.{w32}
 use Rattle.num.proofs.Integers.{back}
 use Rattle.log_lines.proofs.Texts.{frames-none, frames-next}
+use Rattle.decimal.proofs.Loops.{element}
 use Rattle.log_lines.proofs.Lengths.{frames-length-none, frames-length-next}
 use Rattle.log_lines.proofs.text.put_frames.Goals as goal
+use Rattle.log_lines.proofs.text.put_frames.Goals.{In-None}
 
-pub loop-i-init : goal.loop-i-init
-loop-i-init c = (omega arith, frames-length-none _ _, frames-none _ c.args.left.now c.args.right.now _ _ c.min-end.ensures)
+pub loop-l-init : goal.loop-l-init
+loop-l-init c = (omega arith, search rules, search rules, frames-length-none _ _, record { same = refl; put = frames-none _ _ _ _ _ c.min-out.ensures })
 
-pub loop-i-preserved : goal.loop-i-preserved
-loop-i-preserved c =
-    let l : SFits w32 (get_or c.args.left.now c.loop-i.i (pos 0)) = search rules in
-    let r : SFits w32 (get_or c.args.right.now c.loop-i.i (pos 0)) = search rules in
-    (omega arith, frames-length-next c.args.left.now c.args.right.now c.loop-i.i c.loop-i.invariant.1, frames-next c.args.out.now _ _ c.args.left.now c.args.right.now c.args.at _ _ c.loop-i.i c.loop-i.invariant.2 (rw (back w32 _ l, back w32 _ r) at c.put_frame-end.ensures))
+pub loop-l-preserved : goal.loop-l-preserved
+loop-l-preserved c =
+    let i = length c.loop-l.yielded in
+    let v = c.loop-l.invariant in
+    let s = c.in-Some.ensures.steps in
+    let l = element _ _ _ _ i v.1 s.0 in
+    let r = element _ _ _ _ i v.2 s.1 in
+    let n : length (c.loop-l.yielded ++ (c.in-Some.field-0-0, c.in-Some.field-0-1) ∷ []) ≡ i + 1 = length-append c.loop-l.yielded _ in
+    let a : SFits w32 c.in-Some.field-0-0.now = search rules in
+    let b : SFits w32 c.in-Some.field-0-1.now = search rules in
+    rw n (omega (arith, l.0, r.0), l.2, r.2, frames-length-next c.args.left.now c.args.right.now i v.3, frames-next _ _ _ c.args.left.now c.args.right.now i v.4 (rw (back w32 _ a, back w32 _ b, l.1, r.1) at c.put_frame.ensures))
+
+-- how many frames there are
+all : (c : In-None) → length c.loop-l.yielded ≡ min (length c.args.left.now) (length c.args.right.now)
+all c =
+    let v = c.loop-l.invariant in
+    elim c.in-None.ensures.steps [
+      | inl e ↦ omega (arith, e.1.0, v.0, ap length v.1, length-drop (length c.loop-l.yielded) c.args.left.now)
+      | inr e ↦ omega (arith, e.1.0, v.0, ap length v.2, length-drop (length c.loop-l.yielded) c.args.right.now)
+    ]
+
+pub returns-clause-put : goal.returns-clause-put
+returns-clause-put c = rw (all c) at c.loop-l.invariant.4
+
+pub returns-clause-bound : goal.returns-clause-bound
+returns-clause-bound c = rw (all c) at c.loop-l.invariant.3

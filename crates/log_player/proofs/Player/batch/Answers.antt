@@ -8,10 +8,10 @@ pub returns-then-n-eq0 : goal.returns-then-n-eq0
 returns-then-n-eq0 c =
     let a = c.args in
     let g = c.gather-found.ensures in
-    batch-none a.input.now (world a.self a.ram.now a.queues.now) a.number a.from a.out.now a.at c.requires.fact_1 c.requires.fact_2.1 (g.stops c.if-n-eq0.true)
+    batch-none a.input.now (world a.self a.ram.now a.queues.now) a.number a.from a.out.now c.requires.fact_1 c.requires.fact_2.1 (g.stops c.if-n-eq0.true)
 
-pub play_list-played-requires : goal.play_list-played-requires
-play_list-played-requires c =
+pub play_list-player-requires-clause-fact : goal.play_list-player-requires-clause-fact
+play_list-player-requires-clause-fact c =
     let g = c.gather-found in
     let e = g.ensures in
     let l = c.min-most.ensures in
@@ -24,4 +24,4 @@ returns c =
     let f = c.gather-found in
     let g = f.ensures in
     let l = c.min-most.ensures in
-    batch-some a.input.now (world a.self a.ram.now a.queues.now) _ a.number a.from _ _ _ a.at _ a.out.now _ _ _ _ g.gathers c.if-n-eq0.false (omega (arith, g.bound, l, f.auto.kinds)) (omega (arith, g.bound, l, c.requires.fact_2.0)) c.requires.fact_2.1 refl c.play_list-played.ensures
+    batch-some a.input.now (world a.self a.ram.now a.queues.now) _ a.number a.from _ _ _ a.out.now _ _ _ _ g.gathers c.if-n-eq0.false (omega (arith, g.bound, l, f.auto.kinds)) (omega (arith, g.bound, l, c.requires.fact_2.0)) c.requires.fact_2.1 refl c.play_list-player.ensures

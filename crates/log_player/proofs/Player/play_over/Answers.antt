@@ -22,8 +22,8 @@ returns c =
     let p = c.play-called.ensures in
     let k = c.play-called.auto in
     let m = c.hear.ensures in
-    let t = c.show-end.ensures in
-    plays-lines a.kinds.now a.addresses.now a.values.now w a.stems.now a.others.now a.left.now a.right.now c.requires.fact_1 z _ _ _ _ _ _ _ _ a.out.now _ a.at _
+    let t = c.show.ensures in
+    plays-lines a.kinds.now a.addresses.now a.values.now w a.stems.now a.others.now a.left.now a.right.now c.requires.fact_1 z _ _ _ _ _ _ _ _ a.out.now _
     (ap (λ (x : Called). x.chip) p.called) p.ram p.queues p.values
     (sides-are a.kinds.now a.addresses.now a.values.now w a.stems.now a.others.now a.left.now a.right.now c.requires.fact_1 z _ _ p.stems p.others 0 _ a.left.now z.lefts m.left)
     (sides-are a.kinds.now a.addresses.now a.values.now w a.stems.now a.others.now a.left.now a.right.now c.requires.fact_1 z _ _ p.stems p.others 1 _ a.right.now z.rights m.right)

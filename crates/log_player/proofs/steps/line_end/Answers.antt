@@ -1,16 +1,22 @@
-use mathlib.Core.Path.{refl}
+use Rattle.std.specs.Prelude.{position}
+use Rattle.std.proofs.Common.{rules, tests}
+use Rattle.std.proofs.lemmas.Iterator.{YieldsList-from_slice}
+use Rattle.std.proofs.lemmas.Iterator.Search.{position_from_yields_List}
+use mathlib.Core.Path.{◌≡◌, ap}
+use Prim.Native.Nat.{ℕ, ◌+◌}
 use native.Mathlib.Omega.{arith}
-use Rattle.log_player.proofs.Stops.{ends_at, goes-on, ends_last, last-place}
+use lib.Dec.{eqb}
+use lib.ListN.{drop, length-drop}
+use Rattle.log_player.proofs.Stops.{stop-found, stop-none}
 use Rattle.log_player.proofs.steps.line_end.Goals as goal
 
-pub loop-i-init : goal.loop-i-init
-loop-i-init c = (omega arith, (λ h. absurd (omega arith)), refl)
+pub returns-in-Some : goal.returns-in-Some
+returns-in-Some c =
+    let e : c.position.result ≡ position (λ (x : ℕ). eqb x 10) c.tail.result.now = position_from_yields_List _ _ _ _ c.position.ensures.ran (YieldsList-from_slice c.tail.result.now cc) (λ x b q k. search (rules, tests)) in
+    ap (λ (n : ℕ). c.args.from + n) (stop-found (drop c.args.from c.args.input.now) _ _ (rw c.tail.ensures at e) c.in-Some.is)
 
-pub returns-then-input-i-eq10 : goal.returns-then-input-i-eq10
-returns-then-input-i-eq10 c = omega (arith, c.loop-i.invariant.2, ends_at c.args.input.now c.loop-i.i c.loop-i-test.true c.if-input-i-eq10.true)
-
-pub loop-i-preserved : goal.loop-i-preserved
-loop-i-preserved c = (omega (arith, c.loop-i.invariant.0), (λ h. omega (arith, c.loop-i-test.true)), omega (arith, c.loop-i.invariant.2, goes-on c.args.input.now c.loop-i.i c.loop-i-test.true c.if-input-i-eq10.false))
-
-pub returns : goal.returns
-returns c = omega (arith, c.loop-i.invariant.2, ends_last c.args.input.now c.loop-i.i c.loop-i-test.false, c.max.ensures, last-place _ _ _ c.loop-i.invariant.0 c.loop-i.invariant.1 c.loop-i-test.false)
+pub returns-in-None : goal.returns-in-None
+returns-in-None c =
+    let e : c.position.result ≡ position (λ (x : ℕ). eqb x 10) c.tail.result.now = position_from_yields_List _ _ _ _ c.position.ensures.ran (YieldsList-from_slice c.tail.result.now cc) (λ x b q k. search (rules, tests)) in
+    let n = stop-none (drop c.args.from c.args.input.now) _ (rw c.tail.ensures at e) c.in-None.is in
+    omega (arith, n, c.max.ensures, length-drop c.args.from c.args.input.now)

@@ -1,5 +1,5 @@
-use Rattle.log_state.proofs.Refused.{answer-as, none-put}
+use Rattle.log_state.proofs.Refused.{fine-put}
 use Rattle.log_state.proofs.refusing.put_refusal.Goals as goal
 
 pub returns-in-Ok : goal.returns-in-Ok
-returns-in-Ok g c = answer-as _ _ _ _ _ _ c.in-Ok.is (none-put _ _ _ c.least.ensures)
+returns-in-Ok g c = fine-put _ _ _ _ c.in-Ok.is c.put_bytes.ensures

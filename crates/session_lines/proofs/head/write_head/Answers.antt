@@ -1,7 +1,8 @@
+use borrow.Author.Rules.{rules}
 use Rattle.line_fields.proofs.Numbers.{told-room}
 use native.Mathlib.Omega.{arith}
 use Rattle.decimal.proofs.Writing.{width-most}
-use Rattle.session_lines.proofs.Heads.{head-put, head-yes, head-no}
+use Rattle.session_lines.proofs.Heads.{head-puts, head-yes, head-no}
 use Rattle.session_lines.proofs.head.write_head.Goals as goal
 
 pub overflow_add-width : goal.overflow_add-width
@@ -14,7 +15,7 @@ returns-then-out-width c =
 
 pub returns : goal.returns
 returns c =
-    let p = (let a = c.args in
-    head-yes a.out.now a.version a.size _ c.natural_width-width.ensures _ _ c.if-out-width.false
-    (head-put a.out.now _ _ _ _ _ _ _ _ _ _ _ a.version a.size c.from-number.ensures c.put_text-first.ensures c.put_byte-second.ensures c.put_byte-third.ensures c.put_natural-fourth.ensures c.put_byte.ensures)) in
-    record { result = p.0; out = p.1; number = (told-room _ _ _ p).1.1 }
+    let a = c.args in
+    let t = head-puts _ _ _ _ _ _ _ a.version a.size c.from-number.ensures c.put_bytes.ensures c.put_byte.ensures c.put_byte-2.ensures c.put_natural.ensures c.put_byte-3.ensures in
+    let p = head-yes a.out.now a.version a.size _ c.natural_width-width.ensures _ _ c.if-out-width.false t.put in
+    record { result = p.0; out = search rules; number = (told-room _ _ _ p).1.1 }

@@ -14,7 +14,7 @@ loop-i-preserved c =
     let l = c.loop-i in
     let q = c.args.queue.now in
     let head = c.args.f.head % fifo_capacity in
-    let count = c.least-count.result in
+    let count = c.min-count.result in
     let h : l.i < count = c.loop-i-test.true in
     let bits : c.bits16.result ≡ of_z w16 c.entry-sample.result = rw (back w16 _ (sfits_of c.entry-sample.type_inv)) at c.bits16.ensures in (
       omega (arith, h),
@@ -26,5 +26,5 @@ loop-i-preserved c =
 pub returns-clause-numbers : goal.returns-clause-numbers
 returns-clause-numbers c =
     let a = c.args in
-    let count = c.least-count.result in (queue-put a.f a.queue.now a.numbers.now _ _ count c.least-count.ensures c.put_number.ensures
+    let count = c.min-count.result in (queue-put a.f a.queue.now a.numbers.now _ _ count c.min-count.ensures c.put_number.ensures
     (done c.loop-i.invariant.3 (omega (arith, size-queue a.queue.now (a.f.head % fifo_capacity) count, c.loop-i-test.false))))

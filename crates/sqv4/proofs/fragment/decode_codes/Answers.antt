@@ -32,7 +32,7 @@ loop-i-preserved c =
     let code = code-at a.variant _ bits a.payload.now l.i _ (few c.bits-bits.result l.i a.places.count c.loop-i-test.true c.requires.0 (width a.variant _ bits)) refl in
     let near : SFits w16 dc.result.predictor = record { sfits = c.struct_told-1.given.0.1 } in
     let ed : dc.result ≡ decode_code a.version a.variant l.state (code_at a.payload.now l.i (bits_of a.variant)) =
-    rw (c.unpack_bits.ensures ∙ code, c.least-index.ensures, c.step_sizes-steps.ensures) at dc.ensures
+    rw (c.unpack_bits.ensures ∙ code, c.min-index.ensures, c.step_sizes-steps.ensures) at dc.ensures
     ∙ read_is a.version a.variant l.state (code_at a.payload.now l.i (bits_of a.variant)) in
     let es : so.result ≡ sound_of a.version dc.result.predictor a.volume = rw (to_z-of_z near) at so.ensures in
     let ep : c.put.new.out ≡ set l.out l.at so.result = rw (to_z-of_z (sfits_of so.type_inv)) at c.put.ensures in

@@ -20,7 +20,7 @@ loop-i-preserved c =
     let code = c.nearest_code-code.result in
     let ec : code ≡ code_for a.terms.variant a.terms.volume l.state (get_or a.samples.now l.i (pos 0)) = rw (back w16 _ near) at c.nearest_code-code.ensures in
     let ed : c.decode_at-state.result ≡ decode_code 3 a.terms.variant l.state code =
-    rw (c.least-at.ensures, t) at c.decode_at-state.ensures ∙ read_is 3 a.terms.variant l.state code in
+    rw (c.min-at.ensures, t) at c.decode_at-state.ensures ∙ read_is 3 a.terms.variant l.state code in
     (length-set l.codes l.i code ∙ l.invariant.0, code-stored a.terms.variant a.terms.volume a.samples.now l.codes l.state l.i code _ c.loop-i-test.true ec ed ∙ l.invariant.1)
 
 pub returns : goal.returns

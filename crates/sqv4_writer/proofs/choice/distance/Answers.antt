@@ -29,6 +29,6 @@ returns c =
     let ed : d.result ≡ decode_code 3 a.variant a.state a.code =
     d.ensures ∙ ap (λ (n : ℕ). decode_at 3 a.variant a.state (min n 32767) a.code) c.requires ∙ read_is 3 a.variant a.state a.code in
     let ev : v.result ≡ applied_volume d.result.predictor a.volume = rw (back w16 _ near) at v.ensures in
-    let em : c.magnitude.result ≡ nat_abs (v.result -ℤ a.sample) =
-    rw (back w16 _ h, back w32 _ (widen16-32 h), back w16 _ f, back w32 _ (widen16-32 f), back w32 _ (apart v.result a.sample h f)) at c.magnitude.ensures in
+    let em : c.unsigned_abs.result ≡ nat_abs (v.result -ℤ a.sample) =
+    rw (back w16 _ h, back w32 _ (widen16-32 h), back w16 _ f, back w32 _ (widen16-32 f), back w32 _ (apart v.result a.sample h f)) at c.unsigned_abs.ensures.value in
     em ∙ ap (λ (z : ℤ). nat_abs (z -ℤ a.sample)) (ev ∙ ap (λ (s : State). applied_volume s.predictor a.volume) ed)

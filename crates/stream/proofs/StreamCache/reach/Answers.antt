@@ -32,12 +32,12 @@ pub returns-then-has : goal.returns-then-has
 returns-then-has c =
     let a = c.args in
     let per = c.frame_samples-per in
-    let e : c.least.result - 1 ≡ spanned a.self a.frame true = rw (c.least.ensures, per.ensures.result) in
+    let e : c.min.result - 1 ≡ spanned a.self a.frame true = rw (c.min.ensures, per.ensures.result) in
     e ∙ sym (reach-is a.self a.frame c.if-frame-ge34359738368.false (not-false _ c.if-not-self.false) (sym c.is_some.ensures ∙ c.if-not-is_some.false) (sym c.has.ensures ∙ c.if-not-has.false) true (sym c.has-2.ensures ∙ c.if-has.true))
 
 pub returns : goal.returns
 returns c =
     let a = c.args in
     let per = c.frame_samples-per in
-    let e : c.least-2.result - 1 ≡ spanned a.self a.frame false = rw (c.least-2.ensures, per.ensures.result) in
+    let e : c.min-2.result - 1 ≡ spanned a.self a.frame false = rw (c.min-2.ensures, per.ensures.result) in
     e ∙ sym (reach-is a.self a.frame c.if-frame-ge34359738368.false (not-false _ c.if-not-self.false) (sym c.is_some.ensures ∙ c.if-not-is_some.false) (sym c.has.ensures ∙ c.if-not-has.false) false (sym c.has-2.ensures ∙ c.if-has.false))

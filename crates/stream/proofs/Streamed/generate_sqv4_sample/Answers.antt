@@ -65,7 +65,7 @@ returns-in_default-clause-result c =
     let s = stock a.self.cache a.samples.now in
     let f = found-fresh a.ram.now a.p s (eq-eqb (length a.samples.now) 128 c.if-samples-ne128.false) c.if-cache.false None (sym c.initialize_sqv4-opened.ensures ∙ c.in_default.is) in
     let e = tick-by a.ram.now a.p s a.self.phase a.self.active (fresh_found (part a.ram.now a.p.start (a.p.end - a.p.start)) a.samples.now None) f in
-    (c.stopped.ensures ∙ ap (λ (x : StreamCache). record { cache = x; phase = a.self.phase; active = false; q8 = pos 0 }) c.empty.ensures ∙ ap streamed_of e)
+    (c.stopped.ensures ∙ ap (λ (x : StreamCache). record { cache = x; phase = a.self.phase; active = false; q8 = pos 0 }) c.default.ensures ∙ ap streamed_of e)
 
 pub returns-in_default-clause-samples : goal.returns-in_default-clause-samples
 returns-in_default-clause-samples c =

@@ -1,4 +1,3 @@
-use mathlib.Core.Path.{◌≡◌}
 use mathlib.Core.List.{[]}
 use Prim.Native.Nat.{◌-◌}
 use lib.ListN.{length}
@@ -8,8 +7,8 @@ use Rattle.timed_log.proofs.Clockwork.unroll.Given as goal
 
 abbrev pub invariant-loop-due : goal.invariant-loop-due
 invariant-loop-due l =
-    (length l.plain ≡ length l.initial.plain) × Unrolling l.input (unroll_from (length l.initial.plain) l.input (reach l.initial.clock l.number l.from [])) l.clock l.line l.place l.initial.plain l.plain l.end
+    Unrolling l.input (unroll_from (length l.initial.text.buffer.now) l.input (reach l.initial.clock l.number l.from [])) l.clock l.line l.place l.initial.text l.text
 
 abbrev pub decreases-loop-due : goal.decreases-loop-due
 decreases-loop-due l =
-    length l.initial.plain - l.end
+    length l.initial.text.buffer.now - l.text.at

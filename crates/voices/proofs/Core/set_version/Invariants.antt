@@ -1,10 +1,8 @@
 use mathlib.Core.Path.{◌≡◌}
-use Prim.Native.Nat.{◌-◌, ◌≤◌}
-use Rattle.voices.proofs.Loops.{under_to}
+use Rattle.voice.specs.Channel.{set_channel_version}
+use Rattle.voice.specs.declared.Channel.{Channel}
+use Rattle.voices.proofs.Parts.{changed}
 use Rattle.voices.proofs.Core.set_version.Given as goal
 
-abbrev pub invariant-loop-ch : goal.invariant-loop-ch
-invariant-loop-ch l = (l.ch ≤ 8) × (l.core ≡ under_to l.initial.core l.version l.ch)
-
-abbrev pub decreases-loop-ch : goal.decreases-loop-ch
-decreases-loop-ch l = 8 - l.ch
+abbrev pub invariant-loop-c : goal.invariant-loop-c
+invariant-loop-c l = l.c-items ≡ changed (λ (c : Channel). set_channel_version c l.fn.version) l.c-index l.initial.c-items

@@ -7,7 +7,7 @@ returns c =
     λ i. record {
       oscillator = c.oscillator.ensures i;
       fifo = c.args.queue;
-      stream = c.empty.ensures i;
+      stream = c.default.ensures i;
       pcm = c.pcm.ensures i;
       registers = c.registers.ensures i;
     }
