@@ -136,13 +136,7 @@ fn index_after(index: usize, adjust: i32) -> usize
     ensures { result ≡ index_after index adjust }
 {
     let moved = (index.min(88) as i32) + adjust;
-    if moved < 0 {
-        return 0;
-    }
-    if 88 < moved {
-        return 88;
-    }
-    moved as usize
+    moved.clamp(0, 88) as usize
 }
 
 // H: the parts of a step that three bits select.

@@ -53,9 +53,12 @@ pub(crate) fn pair(first: &[i16], second: &[i16], stems: &mut [i16])
     requires { (length first.now % stems_per_frame ≡ 0) × (length second.now ≡ length first.now) × (length stems.old ≡ 2 * length first.now) }
     ensures { stems.new ≡ paired (length first.now / stems_per_frame) first.now second.now }
 {
-    for i in 0..first.len() {
-        let at = i + i / STEMS * STEMS;
-        stems[at] = first[i];
-        stems[at + STEMS] = second[i];
+    let frames = first.chunks_exact(STEMS).zip(second.chunks_exact(STEMS));
+    for (n, (one, other)) in frames.enumerate() {
+        let from = 2 * STEMS * n;
+        let middle = from + STEMS;
+        let to = middle + STEMS;
+        stems[from..middle].copy_from_slice(one);
+        stems[middle..to].copy_from_slice(other);
     }
 }

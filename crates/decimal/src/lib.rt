@@ -9,7 +9,7 @@ ghost use Rattle.decimal.specs.Read.{digit_at, spelled_at, natural_at, number_at
 use output::Output;
 
 // What reading a numeral finds: its value and the place behind it.
-// Kept as it is: readers take a text and a place in it, since a place past the text's end is one too, from which no slice can be cut.
+// Kept as it is: readers take a text and a place in it, and give a place of the same text, which their callers compare and go on from.
 pub type Numeral<T> = Option<(T, usize)>;
 
 // Puts n's numeral.

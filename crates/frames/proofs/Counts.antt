@@ -1,10 +1,11 @@
 -- Frames that a list clocks, bytes that it stores. Assumes nothing.
-use Rattle.std.proofs.Common.{◌≡◌, ℕ, zero, suc, ◌+◌, ◌-◌, ◌<◌, ◌≤◌, Bool, true, false, not, eqb, List, get_or, set, sym, refl, ap, ◌∙◌, subst, add-one, arith, eq-eqb, ne_eqb, eqb-true}
+use Rattle.std.proofs.Common.{◌≡◌, ℕ, zero, suc, ◌+◌, ◌-◌, ◌<◌, ◌≤◌, Bool, true, false, not, eqb, List, ◌∷◌, length, get_or, take, drop, set, sym, refl, ap, ◌∙◌, subst, add-one, arith, length-drop, get_or-drop, get_or-take, eq-eqb, ne_eqb, eqb-true}
+use lib.Seq.{drop-cons, length-take-le}
 use mathlib.Core.Bool.{beq}
 use native.Mathlib.Decide.{dec_lt}
 use borrow.Author.Tests.{eqb-false}
 use Rattle.num.proofs.Choice.{never}
-use Rattle.frames.specs.Listing.{clocked_by, frames_asked}
+use Rattle.frames.specs.Listing.{asked_of, clocked_as, clocked_by, frames_asked}
 use Rattle.frames.specs.Stored.{calls_stored}
 
 pub differ : (a b : Bool) → not (beq a b) ≡ true → a ≡ not b
@@ -28,6 +29,17 @@ grown P from i f p j g h = elim (dec_lt j i) [ yes y ↦ f j g y | no y ↦ subs
 
 pub zero-add : (n : ℕ) → n ≡ 0 + n
 zero-add n = omega arith
+
+-- an element of a list whose elements are taken in turn, and what is left behind it
+pub element : (l rest after : List ℕ) (x i : ℕ) → rest ≡ drop i l → rest ≡ x ∷ after → (i < length l) × (x ≡ get_or l i 0) × (after ≡ drop (i + 1) l)
+element l rest after x i e f =
+    let h : i < length l = omega (arith, ap length e, ap length f, length-drop i l) in
+    let g : x ∷ after ≡ get_or l i 0 ∷ drop (suc i) l = sym f ∙ e ∙ drop-cons l i 0 h in
+    (h, cc, rw (add-one i) cc)
+
+-- an element of a part
+pub part-at : (l : List ℕ) (from n j k : ℕ) → j < n → from + j ≡ k → get_or (take n (drop from l)) j 0 ≡ get_or l k 0
+part-at l from n j k h e = get_or-take n (drop from l) j 0 h ∙ get_or-drop from l j 0 ∙ ap (λ (m : ℕ). get_or l m 0) e
 
 -- nothing is left exactly where all was taken
 pub none_left : (rest x s : ℕ) → rest + x ≡ s → eqb rest 0 ≡ eqb s x
@@ -66,6 +78,19 @@ module _ (kinds addresses : List ℕ) where
       let e : from + suc m ≡ suc (from + m) = omega arith in
       ap (F 0) e ∙ (let z : 0 + (from + m) ≡ from + m = omega arith in rw (h, z) (omega arith))
 
+  -- those of the first calls
+  frames_cut : (n m : ℕ) → m ≤ n → frames_asked (take n kinds) (take n addresses) 0 m ≡ F 0 m
+  unfolding frames_asked
+  frames_cut n zero h = refl
+  frames_cut n (suc m) h =
+      let p = frames_cut n m (omega arith) in
+      let k = get_or-take n kinds (0 + m) 0 (omega arith) in
+      let a = get_or-take n addresses (0 + m) 0 (omega arith) in
+      λ j. p j + clocked_as (asked_of (k j)) (a j)
+
+  pub frames-cut : (n : ℕ) → n ≤ length kinds → frames_asked (take n kinds) (take n addresses) 0 (length (take n kinds)) ≡ F 0 n
+  frames-cut n h = ap (frames_asked (take n kinds) (take n addresses) 0) (length-take-le n kinds h) ∙ frames_cut n n (omega arith)
+
 module _ (addresses values : List ℕ) (from : ℕ) (ram : List ℕ) where
   pub stored-none : ram ≡ calls_stored addresses values from 0 ram
   unfolding calls_stored
@@ -82,3 +107,16 @@ module _ (addresses values : List ℕ) (from : ℕ) (ram : List ℕ) where
       let p : i ≡ from + (i - from) = omega arith in
       let q : i - from + 1 ≡ i + 1 - from = omega arith in
       stored_more (i - from) i now next p e f ∙ ap (λ (k : ℕ). calls_stored addresses values from k ram) q
+
+  -- by the calls of a part
+  stored_part : (n m : ℕ) → m ≤ n → calls_stored (take n (drop from addresses)) (take n (drop from values)) 0 m ram ≡ calls_stored addresses values from m ram
+  unfolding calls_stored
+  stored_part n zero h = refl
+  stored_part n (suc m) h =
+      let p = stored_part n m (omega arith) in
+      let a = part-at addresses from n (0 + m) (from + m) (omega arith) (omega arith) in
+      let v = part-at values from n (0 + m) (from + m) (omega arith) (omega arith) in
+      λ j. set (p j) (a j) (v j)
+
+  pub stored-part : (n : ℕ) → from + n ≤ length addresses → calls_stored (take n (drop from addresses)) (take n (drop from values)) 0 (length (take n (drop from addresses))) ram ≡ calls_stored addresses values from n ram
+  stored-part n h = ap (λ (m : ℕ). calls_stored (take n (drop from addresses)) (take n (drop from values)) 0 m ram) (length-take-le n (drop from addresses) (omega (arith, length-drop from addresses))) ∙ stored_part n n (omega arith)

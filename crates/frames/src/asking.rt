@@ -45,14 +45,14 @@ pub fn clocked_by(kind: u8, address: u32) -> usize
     }
 }
 
-// Kept as it is: two slices are read at one place, and `zip` would first cut both to `count`, which is no plainer.
-fn fills_by(kinds: &[u8], addresses: &[u32], count: usize, stems: usize) -> bool
-    requires { (count ≤ length kinds.now) × (count ≤ length addresses.now) }
-    ensures { result ≡ (stems == stems_per_frame * frames_asked kinds.now addresses.now 0 count) }
+// The same for calls that have one kind and one address each.
+fn fills_by(kinds: &[u8], addresses: &[u32], stems: usize) -> bool
+    requires { length kinds.now ≡ length addresses.now }
+    ensures { result ≡ (stems == stems_per_frame * frames_asked kinds.now addresses.now 0 (length kinds.now)) }
 {
     let mut rest = stems;
-    for i in 0..count {
-        let needed = STEMS * clocked_by(kinds[i], addresses[i]);
+    for (&kind, &address) in kinds.iter().zip(addresses) {
+        let needed = STEMS * clocked_by(kind, address);
         if rest < needed {
             return false;
         }
@@ -67,10 +67,6 @@ pub fn fills(kinds: &[u8], addresses: &[u32], values: &[u8], stems: usize) -> bo
         * frames_asked kinds.now addresses.now 0
         (call_count kinds.now addresses.now values.now)) }
 {
-    fills_by(
-        kinds,
-        addresses,
-        call_count(kinds, addresses, values),
-        stems,
-    )
+    let count = call_count(kinds, addresses, values);
+    fills_by(&kinds[..count], &addresses[..count], stems)
 }

@@ -13,31 +13,28 @@ use version::SguVersion;
 use voices::Core;
 
 // The first call from `from` on that writes to the RAM, or that does not; `count` where there is none.
-// Kept as it is: a place counted from the front is sought, and `position` over a part would count from `from`.
 fn run_end(kinds: &[u8], from: usize, count: usize, stores: bool) -> usize
     requires { (from ≤ count) × (count ≤ length kinds.now) }
     ensures bounds { (from ≤ result) × (result ≤ count) }
     ensures run { AllStore kinds.now kinds.now stores from result }
     ensures end { result < count → (slice_index kinds.now result == write_pcm_ram_kind) ≡ not stores }
 {
-    for i in from..count {
-        if (kinds[i] == WRITE_PCM_RAM) != stores {
-            return i;
-        }
+    let ends = |kind: &u8| (*kind == WRITE_PCM_RAM) != stores;
+    match kinds[from..count].iter().position(ends) {
+        Some(calls) => from + calls,
+        None => count,
     }
-    count
 }
 
-// The bytes that the calls from `from` to before `to` write to the RAM; an address past its end is none.
-// Kept as it is: two slices are read at one place, and `zip` would first cut both to these calls, which is no plainer.
-fn store_bytes(ram: &mut [u8], addresses: &[u32], values: &[u8], from: usize, to: usize)
-    requires { (from ≤ to) × (to ≤ length addresses.now) × (to ≤ length values.now) }
-    ensures { ram.new ≡ calls_stored addresses.now values.now from (to - from) ram.old }
+// The bytes that calls write to the RAM; an address past its end is none.
+fn store_bytes(ram: &mut [u8], addresses: &[u32], values: &[u8])
+    requires { length addresses.now ≡ length values.now }
+    ensures { ram.new ≡ calls_stored addresses.now values.now 0 (length addresses.now) ram.old }
 {
-    for i in from..to {
-        let at = addresses[i] as usize;
+    for (&address, &value) in addresses.iter().zip(values) {
+        let at = address as usize;
         if at < ram.len() {
-            ram[at] = values[i];
+            ram[at] = value;
         }
     }
 }
@@ -76,7 +73,7 @@ fn play_runs(
     while i < count {
         let end = run_end(kinds, i, count, true);
         if i < end {
-            store_bytes(&mut *ram, addresses, &*values, i, end);
+            store_bytes(&mut *ram, &addresses[i..end], &values[i..end]);
             core = core.after_ram_writes(ram.len(), &addresses[i..end]);
         }
         let to = run_end(kinds, end, count, false);

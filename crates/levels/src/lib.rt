@@ -2,16 +2,29 @@
 #![tactic(auto)]
 
 ghost use Rattle.std.specs.Prelude.{◌≡◌};
-ghost use Rattle.levels.specs.Levels.{square_of, over_of, with_frames, voice_peak};
+ghost use Rattle.levels.specs.Levels.{square_of, over_of, side_level, with_frames, voice_peak};
 
 use sizes::{LAST_CHANNEL, STEMS};
 
 // A side that is not clamped: its largest size, the sum of the squares of its values, and how many of them 16 bits do not hold.
-#[derive(Clone, Copy, Default)]
+#[derive(Clone, Copy)]
 pub struct SideLevel {
     pub peak: u32,
     pub squares: u64,
     pub overs: u64,
+}
+
+// Of no frames.
+impl Default for SideLevel {
+    ghost is_default = { λ level. level ≡ side_level 0 0 0 };
+
+    fn default() -> SideLevel {
+        SideLevel {
+            peak: 0,
+            squares: 0,
+            overs: 0,
+        }
+    }
 }
 
 impl SideLevel {

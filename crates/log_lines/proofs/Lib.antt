@@ -3,3 +3,4 @@ pub mod Texts
 pub mod Lengths
 pub mod Long
 pub mod Bytes
+pub mod Narrow

@@ -24,14 +24,12 @@ fn two_numbers(text: &[u8], at: usize) -> Option<(u32, u8)>
     ensures { result ≡ two_at text.now at }
 {
     let (value, next) = decimal::take_natural(text, at)?;
-    if 0xFFFF_FFFF < value {
-        return None;
-    }
+    let address = u32::try_from(value).ok()?;
     if num::byte_at(text, next) != 44 {
         return None;
     }
     let byte = one_number(text, next + 1, 255)?;
-    Some((value as u32, byte as u8))
+    Some((address, byte as u8))
 }
 
 // A line of an address that is a register's, if there is such a register. An `M` line (77) names a byte of the RAM.
@@ -47,15 +45,11 @@ fn mapped(address: u32, line: Line) -> Result<Line, LineFault>
 fn clock_of(one: Option<u32>) -> Result<Line, LineFault>
     ensures { result ≡ clock_of one }
 {
-    match one {
-        Some(frames) => {
-            if frames == 0 {
-                return Err(LineFault::Malformed);
-            }
-            Ok(Line::Clock(frames))
-        }
-        None => Err(LineFault::Malformed),
+    let frames = one.ok_or(LineFault::Malformed)?;
+    if frames == 0 {
+        return Err(LineFault::Malformed);
     }
+    Ok(Line::Clock(frames))
 }
 
 impl LineFault {

@@ -16,6 +16,7 @@ use Rattle.num.proofs.Choice.{never}
 use Rattle.output.specs.declared.Output.{Output}
 use Rattle.output.specs.Output.{Puts}
 use Rattle.output.proofs.Writing.{puts-append, puts-none}
+use Rattle.frames.specs.declared.Asked.{Asked}
 use Rattle.frames.specs.declared.Asked.TheVariants as asked
 use Rattle.frames.specs.Listing.{write_register_kind, write_pcm_ram_kind, set_version_kind, asked_of, clocked_as, clocked_by, frames_asked}
 use Rattle.frames.proofs.Counts.{zero-add, frames-more, frames-within, grown}
@@ -78,28 +79,21 @@ call-few text made m e =
     subst (λ (k : ℕ). k ≤ 1000) (sym (e ∙ ap (λ (x : ListedCall). clocked_as (asked_of x.kind) x.address) m.call)) (few-frames m.line (subst FitLine (sym m.is) (line-fits text)))
 
 -- ---- what a call shows
-pub shown_read : (kind address value : ℕ) (left right : List ℤ) → kind ≡ 2 → read_back_line 82 address value ≡ shown_line kind address value left right
-unfolding shown_line asked_of
-shown_read kind address value left right e = rw e
+pub shown-by : (kind address value : ℕ) (left right : List ℤ) (a : Asked) → a ≡ asked_of kind → shown_as a address value left right ≡ shown_line kind address value left right
+unfolding shown_line
+shown-by kind address value left right a e = ap (λ (x : Asked). shown_as x address value left right) e
 
-pub shown-peek : (kind address value : ℕ) (left right : List ℤ) → kind ≡ 3 → read_back_line 80 address value ≡ shown_line kind address value left right
-unfolding shown_line asked_of
-shown-peek kind address value left right e = rw e
-
-pub shown-clock : (kind address value : ℕ) (left right : List ℤ) → kind ≡ 4 → frame_lines left right (min (length left) (length right)) ≡ shown_line kind address value left right
-unfolding shown_line asked_of
-shown-clock kind address value left right e = rw e
-
-pub shown-none : (kind address value : ℕ) (left right : List ℤ) → (kind ≡ 2 → ⊥) → (kind ≡ 3 → ⊥) → (kind ≡ 4 → ⊥) → [] ≡ shown_line kind address value left right
-unfolding shown_line asked_of
-shown-none kind address value left right f g h =
-    rw (ne_eqb kind 2 f, ne_eqb kind 3 g, ne_eqb kind 4 h) (go (eqb kind write_register_kind) (eqb kind write_pcm_ram_kind) (eqb kind set_version_kind))
+pub shown-none : (kind address value : ℕ) (left right : List ℤ) (a : Asked) → a ≡ asked_of kind → (a ≡ asked.Read → ⊥) → (a ≡ asked.Peek → ⊥) → (a ≡ asked.Clock → ⊥) → [] ≡ shown_line kind address value left right
+shown-none kind address value left right a e f g h = go a f g h ∙ shown-by kind address value left right a e
   where
-    go : (a b e : Bool) → [] ≡ shown_as (cond a asked.WriteRegister (cond b asked.WritePcmRam (cond e asked.SetVersion asked.Nothing))) address value left right
-    go true b e = refl
-    go false true e = refl
-    go false false true = refl
-    go false false false = refl
+    go : (a : Asked) → (a ≡ asked.Read → ⊥) → (a ≡ asked.Peek → ⊥) → (a ≡ asked.Clock → ⊥) → [] ≡ shown_as a address value left right
+    go asked.WriteRegister f g h = refl
+    go asked.WritePcmRam f g h = refl
+    go asked.Read f g h = absurd (f refl)
+    go asked.Peek f g h = absurd (g refl)
+    go asked.Clock f g h = absurd (h refl)
+    go asked.SetVersion f g h = refl
+    go asked.Nothing f g h = refl
 
 pub shows :
     (kind address value : ℕ) (left right : List ℤ) (out now : Output) (text : List ℕ) → text ≡ shown_line kind address value left right → Puts out now text → length text ≤ 17 + 16 * min (length left) (length right) →
@@ -184,7 +178,7 @@ module _ (input : List ℕ) (from place stop n budget : ℕ) (kinds addresses va
   }
     where
       next : next_of rest place ≡ Ok (Some (stop + 1))
-      next = next-line input place stop s single (omega arith) (λ e. absurd (omega arith)) p
+      next = next-line input place stop s single (omega arith) p
 
       l : parsed_line (first_line (drop place input)) ≡ line
       l = sym p ∙ sym q
@@ -210,7 +204,7 @@ module _ (input : List ℕ) (from place stop n budget : ℕ) (kinds addresses va
           long x y q = omega (arith, q, length-append x y)
 
 -- ---- where no line is taken, none is next
-module _ (input : List ℕ) (place stop : ℕ) (s : stop ≡ place + length (first_line (drop place input))) where
+module _ (input : List ℕ) (place : ℕ) where
   abbrev left : List ℕ
   left = drop place input
 
@@ -219,11 +213,11 @@ module _ (input : List ℕ) (place stop : ℕ) (s : stop ≡ place + length (fir
   none_open true false m e = refl
   none_open false b m e = never (sym e)
 
-  pub open-line : length input ≤ stop → NoLine input place
+  pub open-line : length (first_line (drop place input)) ≡ length (drop place input) → NoLine input place
   unfolding next_of
   open-line h =
       none_open (eqb (length (first_line left)) (length left)) (leb (length left) 16) (parsed_line (first_line left))
-      (eq-eqb (length (first_line left)) (length left) (omega (arith, s, h, length-drop place input, first_short left)))
+      (eq-eqb (length (first_line left)) (length left) h)
 
   none-bad : (a b : Bool) (p : Result Line LineFault) → is_bad p ≡ true → is_line (cond a (cond b (Ok None) (Err (Bad Malformed))) (line_found (place + length (first_line left) + 1) p)) ≡ false
   none-bad true true m e = refl

@@ -16,6 +16,10 @@ unfoldable pub first_line : List ℕ → List ℕ
 first_line [] = []
 first_line (c ∷ cs) = cond (eqb c 10) [] (c ∷ first_line cs)
 
+-- the place of the first byte 10 of what begins at a place, if there is one
+unfoldable pub line_end : List ℕ → ℕ → Option ℕ
+line_end rest at = cond (eqb (length (first_line rest)) (length rest)) None (Some (at + length (first_line rest)))
+
 -- a line that ends before a place
 abbrev pub line_found : ℕ → Result Line LineFault → Next
 line_found behind (Ok line) = Ok (Some behind)

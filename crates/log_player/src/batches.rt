@@ -11,7 +11,8 @@ ghost use Rattle.log_player.specs.Batches.{call_made, line_call, listed_call, sh
 use crate::steps::line_end;
 use crate::{Batch, Gathered, ListedCall, Player, ROOM};
 use frames::{
-    CLOCK, PEEK_REGISTER, READ_REGISTER, SET_VERSION, WRITE_PCM_RAM, WRITE_REGISTER, clocked_by,
+    Asked, CLOCK, PEEK_REGISTER, READ_REGISTER, SET_VERSION, WRITE_PCM_RAM, WRITE_REGISTER,
+    clocked_by,
 };
 use log_lines::{Line, LineFault};
 use output::Output;
@@ -30,7 +31,7 @@ const FEW_STEMS: usize = STEMS * FEW;
 
 const MOST_STEMS: usize = STEMS * FRAMES;
 
-// Kept as it is: a kind goes into the list that chip_lists::play is lent, whose kinds are any bytes.
+// Kept as it is: `clocked_by` takes the number and the lists hold it, so an `Asked` would be made a number again at each use.
 fn call(kind: u8, address: u32, value: u8) -> ListedCall
     ensures { result ≡ call_made kind address value }
 {
@@ -63,7 +64,8 @@ pub fn listed_call(line: Result<Line, LineFault>) -> Result<ListedCall, LineFaul
 
 // The lines from `from` on as calls: at most `most` lines and 1,000 frames, and each but the first begins where at most `budget`
 // bytes are printed.
-// Kept as it is: log_sound's has a room for frames and no bytes to count, so one of both would be handed limits that each has no use for.
+// Kept as it is: log_sound's says what all of its lists hold then, also behind the calls, this one how a run goes on behind the lines and what they print,
+// so one of both would promise both and count bytes for both.
 #[inline(never)]
 fn gather(
     input: &[u8],
@@ -86,10 +88,9 @@ fn gather(
     let mut place = from;
     // Kept as it is: the count is also what the loop's exits answer, and a zip of three `iter_mut` with `enumerate` would be longer.
     for count in 0..most {
-        let stop = line_end(input, place);
-        if input.len() <= stop {
+        let Some(stop) = line_end(input, place) else {
             return gathered(count, frames, place);
-        }
+        };
         let Ok(made) = listed_call(log_lines::parse(&input[place..stop])) else {
             return gathered(count, frames, place);
         };
@@ -126,12 +127,11 @@ fn show_line(kind: u8, address: u32, value: u8, left: &[i32], right: &[i32], out
     ensures bound { length (shown_line kind address value left.now right.now)
         ≤ 17 + 16 * min (length left.now) (length right.now) }
 {
-    if kind == READ_REGISTER {
-        log_lines::put_read_back(out, 82, address, value);
-    } else if kind == PEEK_REGISTER {
-        log_lines::put_read_back(out, 80, address, value);
-    } else if kind == CLOCK {
-        log_lines::put_frames(out, left, right);
+    match Asked::from(kind) {
+        Asked::Read => log_lines::put_read_back(out, b'R', address, value),
+        Asked::Peek => log_lines::put_read_back(out, b'P', address, value),
+        Asked::Clock => log_lines::put_frames(out, left, right),
+        _ => {}
     }
 }
 

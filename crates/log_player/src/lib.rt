@@ -1,6 +1,9 @@
 // A log played: each line on a chip, and the text that it prints.
 #![tactic(auto)]
 
+ghost use Rattle.std.specs.Prelude.{◌≡◌};
+ghost use Rattle.log_player.specs.declared.Stop.TheVariants.{Bad};
+
 mod batches;
 mod playing;
 mod runs;
@@ -34,6 +37,14 @@ pub enum Stop {
     Refused(Refusal),
 }
 
+impl From<LineFault> for Stop {
+    ghost from_gives = { λ why stop. stop ≡ Bad why };
+
+    fn from(why: LineFault) -> Stop {
+        Stop::Bad(why)
+    }
+}
+
 // What an input holds at a place: a line, and the place of the next one; no whole line; or why no line is played.
 pub type Next = Result<Option<usize>, Stop>;
 
@@ -49,7 +60,7 @@ pub struct Ran {
 }
 
 // A line as the call of a list that it makes: its kind is one of crate `frames`' numbers.
-// Kept as it is: the kind goes into the list that chip_lists::play is lent, whose kinds are any bytes.
+// Kept as it is: `clocked_by` takes the number and the lists hold it, so an `Asked` would be made a number again at each use.
 #[derive(Clone, Copy)]
 pub struct ListedCall {
     pub kind: u8,

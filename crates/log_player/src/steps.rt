@@ -2,7 +2,7 @@
 ghost use Rattle.std.specs.Prelude.{◌≡◌, ◌+◌, ◌≤◌, length, drop};
 ghost use Rattle.output.specs.Output.{Puts};
 ghost use Rattle.log_player.specs.Logs.{end_text};
-ghost use Rattle.log_player.specs.Steps.{first_line, next_of};
+ghost use Rattle.log_player.specs.Steps.{line_end, next_of};
 ghost use Rattle.log_player.specs.Runs.{ran_as};
 ghost use Rattle.log_player.specs.Batches.{Stops};
 
@@ -10,16 +10,14 @@ use crate::{Next, Player, Ran, Stop};
 use log_lines::LineFault;
 use output::Output;
 
-// The place of the first byte 10 from `from` on; the input's end where there is none, and `from` where that is past it.
+// The place of the first byte 10 from `from` on, if there is one.
 // Kept as it is: the places that are answered are the whole input's, so with a sub-slice each caller would add its beginning.
 #[inline(never)]
-pub fn line_end(input: &[u8], from: usize) -> usize
-    ensures { result ≡ from + length (first_line (drop from input.now)) }
+pub fn line_end(input: &[u8], from: usize) -> Option<usize>
+    ensures { result ≡ line_end (drop from input.now) from }
 {
-    match num::tail(input, from).iter().position(|byte| *byte == 10) {
-        Some(count) => from + count,
-        None => from.max(input.len()),
-    }
+    let count = num::tail(input, from).iter().position(|byte| *byte == 10)?;
+    Some(from + count)
 }
 
 // What an input holds at a place: a line that can be played, no whole line, or a bad one. No well-formed line has more than 16
@@ -30,17 +28,14 @@ pub fn look(input: &[u8], from: usize) -> Next
     if input.len() <= from {
         return Ok(None);
     }
-    let stop = line_end(input, from);
-    if stop == input.len() {
-        if stop - from <= 16 {
+    let Some(stop) = line_end(input, from) else {
+        if input.len() - from <= 16 {
             return Ok(None);
         }
         return Err(Stop::Bad(LineFault::Malformed));
-    }
-    match log_lines::parse(&input[from..stop]) {
-        Ok(_) => Ok(Some(stop + 1)),
-        Err(why) => Err(Stop::Bad(why)),
-    }
+    };
+    log_lines::parse(&input[from..stop])?;
+    Ok(Some(stop + 1))
 }
 
 impl Player {

@@ -23,11 +23,7 @@ pub(crate) enum Program {
 impl Program {
     // Whether a state is printed in the end.
     pub(crate) fn saves(self) -> bool {
-        match self {
-            Program::Play => false,
-            Program::Save => true,
-            Program::Load { stored: _, saves } => saves,
-        }
+        matches!(self, Program::Save | Program::Load { saves: true, .. })
     }
 }
 

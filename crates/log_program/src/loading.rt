@@ -12,7 +12,8 @@ use std::io::Error;
 // The lines of a state from before there was a second core.
 const OLD_LINES: usize = 9;
 
-// Kept as it is: the buffer is lent by the caller and read into again, so a line is told by its places.
+// Kept as it is: the buffer is lent by the caller and read into again, so a line is told by its places; `to` is behind the line's
+// byte 10, where program's BufferLine has it on that byte.
 // A line that was found: it ends before `to`, and the bytes of the input buffer before `filled` have been read.
 #[derive(Clone, Copy)]
 struct StateLine {
@@ -100,7 +101,7 @@ fn tell_old(k: usize) {
 
 // Tells which line of the state was refused, the head being line 1.
 fn tell_line(k: usize, text: &mut [u8]) {
-    let number = std::num::wrapping_add_u64(k as u64, 1);
+    let number = (k as u64).wrapping_add(1);
     let mut out = Output {
         buffer: &mut *text,
         at: 0,
@@ -133,24 +134,19 @@ fn behind(
     Place::Stopped
 }
 
-// Reads on until the RAM, of which `have` bytes are there, is full: how many there are then.
-fn fill(
-    rt: &HostRuntime,
-    program: Program,
-    ram: &mut [u8],
-    have: usize,
-) -> Result<Option<usize>, Error> {
+// Reads on until the RAM, of which `have` bytes are there, is full, and answers whether it is.
+fn fill(rt: &HostRuntime, program: Program, ram: &mut [u8], have: usize) -> Result<bool, Error> {
     let mut got = have;
     for _ in 0..ram.len() {
         if ram.len() <= got {
-            return Ok(Some(got));
+            return Ok(true);
         }
         let Some(more) = read_behind(rt, program, &mut *ram, got)? else {
-            return Ok(None);
+            return Ok(false);
         };
         got = more;
     }
-    Ok(Some(got))
+    Ok(true)
 }
 
 // Prints that the input ends before the RAM does.
@@ -185,12 +181,12 @@ fn load_ram(
     let got = front.at;
     let read = fill(rt, program, ram, got);
     match read {
-        Ok(Some(_)) => Place::Going {
+        Ok(true) => Place::Going {
             from: from.min(input.len()) + got,
             filled,
             number: 1,
         },
-        Ok(None) => cut_short(program, text),
+        Ok(false) => cut_short(program, text),
         Err(_) => Place::Stopped,
     }
 }

@@ -1,26 +1,28 @@
 // What is said where standard input or standard output fails.
 use crate::Program;
 use output::Output;
-use program::{STDOUT, say};
+use program::STDOUT;
 use session::LineRefusal;
 use std::io::Error;
 
-pub(crate) fn complain(program: Program, reason: &[u8]) {
-    match program {
-        Program::Play => say(b"s3w2-log: "),
-        Program::Save => say(b"s3w2-save: "),
-        Program::Load { .. } => say(b"s3w2-load: "),
+impl Program {
+    // The name that it complains with.
+    pub(crate) fn name(self) -> &'static [u8] {
+        match self {
+            Program::Play => b"s3w2-log: ",
+            Program::Save => b"s3w2-save: ",
+            Program::Load { .. } => b"s3w2-load: ",
+        }
     }
-    say(reason);
+}
+
+pub(crate) fn complain(program: Program, reason: &[u8]) {
+    program::complain(program.name(), reason);
 }
 
 // Writes the text's bytes before `end` to standard output, and answers whether it could.
 pub(crate) fn written(program: Program, text: &[u8], end: usize) -> bool {
-    if io::write_all(STDOUT, num::part(text, 0, end)) {
-        return true;
-    }
-    complain(program, b"the output cannot be written\n");
-    false
+    program::written(program.name(), STDOUT, num::part(text, 0, end))
 }
 
 // Writes why a line of a state was refused.

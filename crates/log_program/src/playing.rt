@@ -1,6 +1,6 @@
 // A log played from standard input.
 use crate::loading::load_state;
-use crate::moving::{complain, read_behind, written};
+use crate::moving::{complain, written};
 use crate::saving::save;
 use crate::{Lent, Program};
 use log_player::{Player, Ran, Stop};
@@ -26,30 +26,8 @@ fn beginning(program: Program, answer: Answer) -> Place {
     }
 }
 
-// Goes on with more input, if there is any.
-fn refilled(
-    rt: &HostRuntime,
-    program: Program,
-    from: usize,
-    filled: usize,
-    number: u64,
-    input: &mut [u8],
-) -> Place {
-    let kept = program::keep(&mut *input, from, filled);
-    let read = read_behind(rt, program, input, kept);
-    match read {
-        Ok(Some(more)) => Place::Going {
-            from: 0,
-            filled: more,
-            number,
-        },
-        Ok(None) => Place::Ended { rest: kept, number },
-        Err(_) => Place::Stopped,
-    }
-}
-
 // Where a run goes on behind the lines that were played.
-// Kept as it is: s3w2_timed's is of another player's answer and says its own name, so one of both would be handed each part of the answer and the name.
+// Kept as it is: s3w2_timed's is of another player's answer; what follows each case is one line in both, and the rest is program::refilled.
 fn behind(rt: &HostRuntime, program: Program, ran: Ran, filled: usize, input: &mut [u8]) -> Place {
     match ran.next {
         Ok(Some(_)) => Place::Going {
@@ -57,7 +35,7 @@ fn behind(rt: &HostRuntime, program: Program, ran: Ran, filled: usize, input: &m
             filled,
             number: ran.number,
         },
-        Ok(None) => refilled(rt, program, ran.from, filled, ran.number, input),
+        Ok(None) => program::refilled(rt, program.name(), ran.from, filled, ran.number, input),
         Err(Stop::Bad(_)) => Place::Stopped,
         Err(Stop::Refused(_)) => refused(program),
     }
@@ -98,7 +76,7 @@ fn end(program: Program, player: Player, place: Place, text: &mut [u8], lent: &L
 }
 
 // Plays the input from a place on, and writes what it prints.
-// Kept as it is: s3w2_timed's loop is of another player, which is lent one buffer more, so one of both would need a trait for two players.
+// Kept as it is: of s3w2_timed's loop the two statements that run the player and take its answer differ, so one of both would be handed a closure for each.
 pub(crate) fn go_on(
     rt: &HostRuntime,
     program: Program,

@@ -28,10 +28,9 @@ no-line : (b : Bool) (why : LineFault) → is_line (cond b (Ok None) (Err (Bad w
 no-line true why = refl
 no-line false why = refl
 
-pub not-whole : (l : List ℕ) (from stop : ℕ) → stop ≡ from + length (first_line (drop from l)) → length l ≤ stop → is_line (next_of (drop from l) from) ≡ false
+pub not-whole : (l : List ℕ) (from : ℕ) → length (first_line (drop from l)) ≡ length (drop from l) → is_line (next_of (drop from l) from) ≡ false
 unfolding next_of
-not-whole l from stop s h =
-    rw (eq-eqb (length (first_line (drop from l))) (length (drop from l)) (omega (arith, length-drop from l, first_short (drop from l)))) (no-line (leb (length (drop from l)) 16) Malformed)
+not-whole l from e = rw (eq-eqb (length (first_line (drop from l))) (length (drop from l)) e) (no-line (leb (length (drop from l)) 16) Malformed)
 
 pub is-bad : (n : Next) (why : LineFault) → n ≡ Err (Bad why) → is_line n ≡ false
 is-bad n why e = ap is_line e
@@ -92,9 +91,6 @@ leaves room r g h e q b f = (
 )
 
 -- ---- a turn
-pub not-less : {a b : ℕ} → a ≡ b → a < b → ⊥
-not-less e h = omega arith
-
 pub taken-on : (input : List ℕ) (room n m : ℕ) (g h : Gathering) (call : ListedCall) (stop more : ℕ) → stop ≡ g.from + length (first_line (drop g.from input)) → call ≡ call_there input room g → more ≡ frames_made call
     → n ≡ suc m → takes input room g ≡ true → gathered input room n g ≡ h
     → gathered input room m (gathering (g.count + 1) (g.frames + more) (stop + 1) (set g.kinds g.count call.kind) (set g.addresses g.count call.address) (set g.values g.count call.value)) ≡ h

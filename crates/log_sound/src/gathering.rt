@@ -42,10 +42,9 @@ pub(crate) fn gather(
     let mut place = from;
     // Kept as it is: the count is also what the loop's exits answer, and a zip of three `iter_mut` with `enumerate` would be longer.
     for count in 0..256 {
-        let stop = line_end(input, place);
-        if input.len() <= stop {
+        let Some(stop) = line_end(input, place) else {
             return Gathered::of(count, frames, place);
-        }
+        };
         let Ok(call) = listed_call(log_lines::parse(&input[place..stop])) else {
             return Gathered::of(count, frames, place);
         };

@@ -2,7 +2,7 @@
 use mathlib.Core.Path.{◌≡◌, refl, sym, ap, ◌∙◌}
 use mathlib.Core.Bool.{Bool, true, false}
 use mathlib.Core.List.{List}
-use Prim.Native.Nat.{ℕ, ◌+◌, ◌≤◌, ◌<◌}
+use Prim.Native.Nat.{ℕ, ◌+◌, ◌≤◌, ◌<◌, max}
 use native.Mathlib.Omega.{arith}
 use native.Mathlib.Decide.{dec_le}
 use lib.Dec.{eqb}
@@ -23,7 +23,7 @@ not_sound k = go (eqb k 0) refl
     go true e = rw e
     go false e = rw e
 
-module _ (l : List ℕ) (from k stop : ℕ) (s : stop ≡ from + length (first_line (drop from l))) (byte : ℕ) (b : byte ≡ get_or l from 0) where
+module _ (l : List ℕ) (from k byte : ℕ) (b : byte ≡ get_or l from 0) where
   -- the byte at the place begins the rest
   first : sound_line byte k ≡ sound_line (get_or (drop from l) 0 0) k
   first = ap (λ (c : ℕ). sound_line c k) (b ∙ at_zero)
@@ -35,23 +35,25 @@ module _ (l : List ℕ) (from k stop : ℕ) (s : stop ≡ from + length (first_l
     told : sound_line (get_or (drop from l) 0 0) k ≡ sound
     told = sym first ∙ sym e
 
-    pub open-sound : length l ≤ stop → sound ≡ true → Open (from + 1) ≡ found_at (drop from l) from k
-    unfolding found_at
-    open-sound h t = rw (le-leb (length (drop from l)) (length (first_line (drop from l))) (omega (arith, length-drop from l)), told ∙ t)
+    module _ (o : length (first_line (drop from l)) ≡ length (drop from l)) where
+      pub open-sound : sound ≡ true → Open (from + 1) ≡ found_at (drop from l) from k
+      unfolding found_at
+      open-sound t = rw (le-leb (length (drop from l)) (length (first_line (drop from l))) (omega (arith, o)), told ∙ t)
 
-    pub open-line : length l ≤ stop → sound ≡ false → Open stop ≡ found_at (drop from l) from k
-    unfolding found_at
-    open-line h t =
-        rw (le-leb (length (drop from l)) (length (first_line (drop from l))) (omega (arith, length-drop from l)), told ∙ t)
-        (ap Open (omega (arith, length-drop from l, first_short (drop from l))))
+      pub open-line : (stop : ℕ) → stop ≡ max from (length l) → sound ≡ false → Open stop ≡ found_at (drop from l) from k
+      unfolding found_at
+      open-line stop m t =
+          rw (le-leb (length (drop from l)) (length (first_line (drop from l))) (omega (arith, o)), told ∙ t)
+          (ap Open (omega (arith, m, length-drop from l)))
 
-    pub whole-sound : stop < length l → sound ≡ true → Sound (stop + 1) ≡ found_at (drop from l) from k
-    unfolding found_at
-    whole-sound h t = rw (lt-leb (length (drop from l)) (length (first_line (drop from l))) (omega (arith, length-drop from l)), told ∙ t, ← s)
+    module _ (stop : ℕ) (s : stop ≡ from + length (first_line (drop from l))) (h : stop < length l) where
+      pub whole-sound : sound ≡ true → Sound (stop + 1) ≡ found_at (drop from l) from k
+      unfolding found_at
+      whole-sound t = rw (lt-leb (length (drop from l)) (length (first_line (drop from l))) (omega (arith, length-drop from l)), told ∙ t, ← s)
 
-    pub whole-line : stop < length l → sound ≡ false → Line (stop + 1) ≡ found_at (drop from l) from k
-    unfolding found_at
-    whole-line h t = rw (lt-leb (length (drop from l)) (length (first_line (drop from l))) (omega (arith, length-drop from l)), told ∙ t, ← s)
+      pub whole-line : sound ≡ false → Line (stop + 1) ≡ found_at (drop from l) from k
+      unfolding found_at
+      whole-line t = rw (lt-leb (length (drop from l)) (length (first_line (drop from l))) (omega (arith, length-drop from l)), told ∙ t, ← s)
 
     -- a line that a player printed has a byte
     pub sound-within : sound ≡ true → from < length l

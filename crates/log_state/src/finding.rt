@@ -11,10 +11,11 @@ fn is_sound(byte: u8, k: usize) -> bool
     if k != 0 {
         return false;
     }
+    // Kept as it is: tried by `matches!`, whose last arm tells the proof nothing of the byte.
     match byte {
-        70 => true,
-        80 => true,
-        82 => true,
+        b'F' => true,
+        b'P' => true,
+        b'R' => true,
         _ => false,
     }
 }
@@ -23,14 +24,13 @@ fn is_sound(byte: u8, k: usize) -> bool
 pub fn find(input: &[u8], from: usize, k: usize) -> Found
     ensures { result ≡ found_at (drop from input.now) from k }
 {
-    let stop = log_player::line_end(input, from);
     let sound = is_sound(num::byte_at(input, from), k);
-    if input.len() <= stop {
+    let Some(stop) = log_player::line_end(input, from) else {
         if sound {
             return Found::Open(from + 1);
         }
-        return Found::Open(stop);
-    }
+        return Found::Open(from.max(input.len()));
+    };
     if sound {
         return Found::Sound(stop + 1);
     }

@@ -8,6 +8,7 @@ use log_player::Player;
 use session::{LineCalled, LineRefusal};
 
 // Writes line k at out's beginning, if there is room for it.
+// Kept as it is: any k may be given, here, to take_line and to find, and an enum of the head and the eight voices would ask more of callers.
 pub fn put_line(
     player: Player,
     ram: &[u8],
@@ -32,11 +33,7 @@ fn taken(player: Player, called: LineCalled) -> Taken
     let chip = called.chip;
     let answer = called.answer;
     Taken {
-        player: Player {
-            chip,
-            left: player.left,
-            right: player.right,
-        },
+        player: Player { chip, ..player },
         answer,
     }
 }
@@ -44,11 +41,7 @@ fn taken(player: Player, called: LineCalled) -> Taken
 fn begins_with(text: &[u8], number: usize) -> bool
     ensures { result ≡ is_natural number (natural_at text.now 0) }
 {
-    let taken = decimal::take_natural(text, 0);
-    match taken {
-        Some((value, _)) => value == (number as u64),
-        None => false,
-    }
+    decimal::take_natural(text, 0).is_some_and(|(value, _)| value == (number as u64))
 }
 
 // A voice line that begins with the voice's number; an empty one in the place of any other.

@@ -19,6 +19,7 @@ fn put_reason(refusal: LineRefusal, out: &mut Output<'_>)
 }
 
 // Puts why a line was not written or read, as far as there is room. An answer that is no refusal puts nothing.
+// Kept as it is: each answer is taken, and a `LineRefusal` alone would ask more of callers.
 pub fn put_refusal<T: Copy>(answer: Result<T, LineRefusal>, out: &mut Output<'_>)
     ensures { Puts out.old out.new (refusal_line (numbers_of answer)) }
 {

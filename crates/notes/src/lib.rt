@@ -20,11 +20,9 @@ fn sum_at(note: u8, semitones: i8) -> usize
 pub fn frequency(note: u8, semitones: i8) -> u16
     ensures { NearestPitch (sum_at note semitones) result }
 {
-    let at = sum_at(note, semitones);
-    if at < table::FIRST {
+    let Some(place) = sum_at(note, semitones).checked_sub(table::FIRST) else {
         return 0;
-    }
-    let place = at - table::FIRST;
+    };
     if table::KEPT <= place {
         return 65535;
     }

@@ -1,5 +1,5 @@
 -- What fits a signed width, by the size of an integer or by its two parts. Assumes nothing.
-use mathlib.Core.Path.{◌≡◌, refl}
+use mathlib.Core.Path.{◌≡◌, refl, sym, ◌∙◌}
 use mathlib.Core.Bool.{Bool, true, false, cond}
 use Prim.Native.Nat.{ℕ, zero, suc, ◌+◌, ◌*◌, ◌≤◌, ◌<◌, ◌/◌, ◌^◌, min}
 use native.Mathlib.Nat as N
@@ -9,7 +9,8 @@ use lib.Signed.{lt_z, quot_z}
 use mir.Syntax.{Width, w16, w32, w64}
 use mir.Val.{SFits, hbits}
 use Rattle.num.specs.Integers.{up, down, clamp, clamp16, signed}
-use Rattle.num.proofs.Choice.{cond-by}
+use Rattle.num.proofs.Choice.{cond-by, never}
+use Rattle.std.specs.Int.{int_max, int_min}
 use lib.Dec.{ltb}
 use borrow.Author.Tests.{ltb-true, ltb-false}
 use Rattle.num.proofs.Integers.{fit, fit-up, fit-down, z-add, z-sub, one-zero, lt_z-true, lt_z-false, lt-lt_z, le-lt_z, abs_is, up_neg, down-neg, up-quot, down-quot}
@@ -120,3 +121,10 @@ module _ (z : ℤ) (h : nat_abs z ≤ 8388608) (n : ℕ) (l : n ≤ 255) where
 
   pub scaled_fits : SFits w32 (z *ℤ pos n)
   scaled_fits = fit-abs w32 _ (8388608 * 255) scaled-abs (omega arith)
+
+-- std's clamp, by a least and a greatest, is this one between bounds in order
+pub clamp-is : (z l h : ℤ) → lt_z h l ≡ false → int_max l (int_min z h) ≡ clamp z l h
+clamp-is z l h o =
+    cond-by (λ (m : ℤ). int_max l m ≡ clamp z l h) (lt_z h z) h z
+    (λ e. cond-by (λ (x : ℤ). int_max l h ≡ x) (lt_z z l) l (cond (lt_z h z) h z) (λ t. absurd (omega (arith, lt_z-true z l t, lt_z-true h z e, lt_z-false h l o))) (λ f. rw (e, o)))
+    (λ e. cond-by (λ (x : ℤ). cond (lt_z z l) l z ≡ cond (lt_z z l) l x) (lt_z h z) h z (λ g. never (sym g ∙ e)) (λ g. refl))

@@ -5,7 +5,7 @@
 ghost use Rattle.std.specs.Prelude.{◌≡◌, ◌-◌, ◌≤◌, min, length, take, drop};
 ghost use Rattle.num.specs.Lists.{part};
 ghost use Rattle.program.specs.Places.{place_after};
-ghost use Rattle.program.specs.Reading.{Filled};
+ghost use Rattle.program.specs.Reading.{Filled, Refilled};
 
 mod again;
 mod lines;
@@ -36,6 +36,7 @@ pub struct BufferLine {
 // Where a run over a log stands.
 #[derive(Clone, Copy)]
 pub enum Place {
+    // Kept as it is: the buffer is lent by the caller and read into again, so what stands in it is told by its places.
     // The bytes of the input buffer from `from` to before `filled` are not played or written out yet, and begin with line `number`.
     Going {
         from: usize,
@@ -54,6 +55,21 @@ pub enum Place {
 // Writes a text to standard error.
 pub fn say(text: &[u8]) {
     io::write_all(STDERR, text);
+}
+
+// Says why a program stops, behind its name.
+pub fn complain(name: &[u8], reason: &[u8]) {
+    say(name);
+    say(reason);
+}
+
+// Writes a text to a descriptor, and answers whether it could; where it could not, that is said behind the program's name.
+pub fn written(name: &[u8], descriptor: i32, text: &[u8]) -> bool {
+    if io::write_all(descriptor, text) {
+        return true;
+    }
+    complain(name, b"the output cannot be written\n");
+    false
 }
 
 // Writes the text's bytes before `at` to standard output if fewer than `room` are left behind them, and answers where to go on.
@@ -132,4 +148,31 @@ pub fn keep(input: &mut [u8], from: usize, to: usize) -> usize
     let count = end - start;
     input.copy_within(start..end, 0);
     count
+}
+
+// Goes on with more input behind the bytes from `from` to before `filled`, if there is any; they are moved to the front. Where the
+// input cannot be read, that is said behind the program's name.
+pub fn refilled(
+    rt: &HostRuntime,
+    name: &[u8],
+    from: usize,
+    filled: usize,
+    number: u64,
+    input: &mut [u8],
+) -> Place
+    ensures { Refilled (length input.old) (length (part input.old from (filled - from))) number result }
+{
+    let kept = keep(&mut *input, from, filled);
+    match read_behind(rt, input, kept) {
+        Ok(Some(more)) => Place::Going {
+            from: 0,
+            filled: more,
+            number,
+        },
+        Ok(None) => Place::Ended { rest: kept, number },
+        Err(_) => {
+            complain(name, b"the input cannot be read\n");
+            Place::Stopped
+        }
+    }
 }

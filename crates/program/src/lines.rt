@@ -10,12 +10,7 @@ fn newline(text: &[u8], from: usize) -> Option<usize>
         × Open text.now from to) }
     ensures none { IfNone result (Open text.now from (length text.now)) }
 {
-    for i in from..text.len() {
-        if text[i] == 10 {
-            return Some(i);
-        }
-    }
-    None
+    Some(from + num::tail(text, from).iter().position(|byte| *byte == 10)?)
 }
 
 // The line that begins at a place of what has been read, if its end has been read.
@@ -41,7 +36,7 @@ pub fn next_line(
     ensures line { LineIn buffer.new result }
 {
     let (mut from, mut filled) = match before {
-        Some(line) => (std::num::wrapping_add_usize(line.to, 1), line.filled),
+        Some(line) => (line.to.wrapping_add(1), line.filled),
         None => (0, 0),
     };
     for _ in 0..buffer.len() {

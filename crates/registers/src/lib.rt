@@ -54,6 +54,7 @@ pub struct PcmRegisters {
 }
 
 // A voice's queue: its entries are the voice's own 2,048 of the queue buffer.
+// Kept as it is: memory is fixed and the entries are the caller's buffer, so head and count stand apart from them.
 #[derive(Clone, Copy, Default)]
 pub struct Fifo {
     pub head: usize,

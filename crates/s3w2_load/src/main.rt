@@ -3,28 +3,15 @@
 // the word --save it ends with the state in which the log leaves the chip, and not with the peak.
 #![tactic(auto)]
 
-ghost use Rattle.std.specs.Prelude.{◌≤◌};
-
 // Whether a word is given, behind the program's name.
 fn is_given(rt: &HostRuntime, name: &[u8]) -> bool {
-    for k in 1..program::word_count(rt) {
-        if program::is_word(rt, k, name) {
-            return true;
-        }
-    }
-    false
-}
-
-fn one_if(given: bool) -> usize
-    ensures { result ≤ 1 }
-{
-    if given { 1 } else { 0 }
+    (1..program::word_count(rt)).any(|k| program::is_word(rt, k, name))
 }
 
 fn main(rt: HostRuntime) {
     let stored = is_given(&rt, b"--stored");
     let saves = is_given(&rt, b"--save");
-    if program::word_count(&rt) <= 1 + one_if(stored) + one_if(saves) {
+    if program::word_count(&rt) <= 1 + usize::from(stored) + usize::from(saves) {
         log_program::load_log(&rt, stored, saves);
         return;
     }

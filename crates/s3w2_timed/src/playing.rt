@@ -1,13 +1,16 @@
 // A timed log played from standard input. Here bytes are only read, moved and written; what is printed is timed_log's.
 use crate::Lent;
 use log_player::Stop;
-use program::{Place, STDOUT, say};
+use program::{Place, STDOUT, complain};
 use s3w2::Answer;
 use timed_log::{Finished, Timed, TimedRan};
 
+// The name that the program complains with.
+const NAME: &[u8] = b"s3w2-timed: ";
+
 // The chip refuses calls over the RAM and the queue buffer.
 fn refused() -> Place {
-    say(b"s3w2-timed: the chip refuses its buffers\n");
+    complain(NAME, b"the chip refuses its buffers\n");
     Place::Stopped
 }
 
@@ -25,11 +28,7 @@ fn beginning(answer: Answer) -> Place {
 
 // Writes the text's bytes before `end` to standard output, and answers whether it could.
 fn written(text: &[u8], end: usize) -> bool {
-    if io::write_all(STDOUT, num::part(text, 0, end)) {
-        return true;
-    }
-    say(b"s3w2-timed: the output cannot be written\n");
-    false
+    program::written(NAME, STDOUT, num::part(text, 0, end))
 }
 
 // Writes the end of the text.
@@ -48,24 +47,6 @@ fn finish(timed: Timed, place: Place, text: &mut [u8], lent: &mut Lent<'_>) {
     }
 }
 
-// Goes on with more input, if there is any.
-fn refilled(rt: &HostRuntime, from: usize, filled: usize, number: u64, input: &mut [u8]) -> Place {
-    let kept = program::keep(&mut *input, from, filled);
-    let read = program::read_behind(rt, input, kept);
-    match read {
-        Ok(Some(more)) => Place::Going {
-            from: 0,
-            filled: more,
-            number,
-        },
-        Ok(None) => Place::Ended { rest: kept, number },
-        Err(_) => {
-            say(b"s3w2-timed: the input cannot be read\n");
-            Place::Stopped
-        }
-    }
-}
-
 // Where a run goes on behind the lines that were played.
 fn behind(rt: &HostRuntime, ran: TimedRan, filled: usize, input: &mut [u8]) -> Place {
     match ran.next {
@@ -74,7 +55,7 @@ fn behind(rt: &HostRuntime, ran: TimedRan, filled: usize, input: &mut [u8]) -> P
             filled,
             number: ran.number,
         },
-        Ok(None) => refilled(rt, ran.from, filled, ran.number, input),
+        Ok(None) => program::refilled(rt, NAME, ran.from, filled, ran.number, input),
         Err(Stop::Bad(_)) => Place::Stopped,
         Err(Stop::Refused(_)) => refused(),
     }

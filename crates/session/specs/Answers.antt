@@ -1,4 +1,4 @@
--- What a session's call answers, and the numbers of documents 01 and 02 for calls turned away.
+-- What a session's call answers, and the numbers of calls turned away (docs/SPECIFICATION.md, section 12).
 use Rattle.std.specs.Prelude.{Result, Ok, Err, Bool, cond, List, [], ◌∷◌, ℕ, eqb, ℤ, length}
 use Rattle.sizes.specs.Sizes.{ram_most}
 use Rattle.cores.specs.Sizes.{chip_queues}

@@ -22,6 +22,11 @@ write_head_text chip ram out = with_lent_ram chip ram (put_of out (head_text chi
 abbrev pub version_called : Chip → SguVersion → LineCalled
 version_called chip version = line_answered (set_version_called chip version).chip (Ok tt)
 
+-- what a version that was read does, or a refusal
+abbrev pub head_answered : Chip → LineAnswer SguVersion → LineCalled
+head_answered chip (Ok version) = version_called chip version
+head_answered chip (Err why) = line_answered chip (Err why)
+
 -- a head of two fields does not tell the length, and the lent one is taken for it
 abbrev pub head_called : Chip → ℕ → HeadLine → LineCalled
 head_called chip ram (Ok (Version version)) = version_called chip version

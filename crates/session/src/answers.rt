@@ -54,7 +54,7 @@ impl From<Refusal> for LineRefusal {
 }
 
 impl LineRefusal {
-    // Its number in documents 01 and 02.
+    // Its number (docs/SPECIFICATION.md, section 12).
     pub fn number(self) -> u8
         ensures { result ≡ get_or (refusal_numbers self) 0 0 }
     {

@@ -1,6 +1,6 @@
 // A session's head: written, and read as another version is set. Of the RAM that is lent only the length counts.
 ghost use Rattle.std.specs.Prelude.{◌≡◌, length};
-ghost use Rattle.session.specs.Heads.{write_head_answer, write_head_text, version_called, read_head_called};
+ghost use Rattle.session.specs.Heads.{write_head_answer, write_head_text, head_answered, read_head_called};
 
 use crate::answers::answers;
 use crate::{LineCalled, LineRefusal};
@@ -18,31 +18,28 @@ pub fn write_head(chip: Chip, ram: &[u8], out: &mut [u8]) -> Result<usize, LineR
     Ok(session_lines::write_head(version, ram.len(), out)?)
 }
 
-fn set_version(chip: Chip, version: SguVersion) -> LineCalled
-    ensures { result ≡ version_called chip version }
+// The version that a head sets. A head that tells the length of another RAM is turned away.
+fn version_of(chip: Chip, ram: &[u8], text: &[u8]) -> Result<SguVersion, LineRefusal>
+    ensures { head_answered chip result ≡ read_head_called chip (length ram.now) text.now }
 {
-    let called = chip.set_version(version);
-    answers(called.chip, Ok(()))
+    chip.refusal_with_ram(ram.len())?;
+    match session_lines::read_head(text)? {
+        SessionHead::Version(version) => Ok(version),
+        SessionHead::Sized { version, size } => {
+            if size != ram.len() {
+                return Err(LineRefusal::OtherLength);
+            }
+            Ok(version)
+        }
+    }
 }
 
-// What `set_version` does. A head that tells the length of another RAM is turned away.
+// What `set_version` does.
 pub fn read_head(chip: Chip, ram: &[u8], text: &[u8]) -> LineCalled
     ensures { result ≡ read_head_called chip (length ram.now) text.now }
 {
-    if let Err(refusal) = chip.refusal_with_ram(ram.len()) {
-        return answers(chip, Err(LineRefusal::from(refusal)));
-    }
-    let head = match session_lines::read_head(text) {
-        Ok(head) => head,
-        Err(error) => return answers(chip, Err(LineRefusal::from(error))),
-    };
-    match head {
-        SessionHead::Version(version) => set_version(chip, version),
-        SessionHead::Sized { version, size } => {
-            if size != ram.len() {
-                return answers(chip, Err(LineRefusal::OtherLength));
-            }
-            set_version(chip, version)
-        }
+    match version_of(chip, ram, text) {
+        Ok(version) => answers(chip.set_version(version).chip, Ok(())),
+        Err(refusal) => answers(chip, Err(refusal)),
     }
 }

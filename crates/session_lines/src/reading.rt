@@ -84,6 +84,7 @@ fn take_voice(c: Channel, line: LineNumbers, wavetable: &mut [u8], queue: &mut [
 
 // The channel that a line's voice becomes; its wavetable and its queue's first entries are put into the parts lent. A line
 // that tells of no voice changes nothing.
+// Kept as it is: its callers have the flag and the version apart, as those of `check_voice`.
 pub fn read_voice(
     c: Channel,
     stored: bool,

@@ -22,6 +22,7 @@ fn put_first(first: &[u64], numbers: &mut [u64])
 }
 
 // The 256 bytes of a wavetable; those past its end are 0.
+// Kept as it is: 256 numbers are put where the wavetable is shorter too, so there is no slice to go over.
 fn put_table(wavetable: &[u8], numbers: &mut [u64])
     ensures { numbers.new ≡ sets numbers.old 25 (table_numbers wavetable.now) }
 {
@@ -37,6 +38,7 @@ fn entry(queue: &[i16], at: usize) -> i16
 }
 
 // The queue's count and its samples, oldest first; answers the count.
+// Kept as it is: the queue's places go round and come with a place among the numbers, so both come of one index.
 fn put_queue(f: Fifo, queue: &[i16], numbers: &mut [u64]) -> usize
     ensures result { result ≡ min f.count fifo_capacity }
     ensures numbers { numbers.new ≡ sets numbers.old 281 (queue_numbers f queue.now) }

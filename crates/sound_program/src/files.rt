@@ -11,15 +11,17 @@ use std::io::Seek;
 use std::os::unix::fs::FileExt;
 
 // The descriptor of voice 0's file.
-pub(crate) const FIRST_VOICE: i32 = 3;
+const FIRST_VOICE: i32 = 3;
 
 // The bits of a sample.
 const BITS: u16 = 16;
 
+// The name that each of the programs complains with.
+pub(crate) const NAME: &[u8] = b"s3w2: ";
+
 // Says why a program stops.
 pub(crate) fn complain(reason: &[u8]) {
-    say(b"s3w2: ");
-    say(reason);
+    program::complain(NAME, reason);
 }
 
 // Says a word, a number and byte 10.
@@ -34,54 +36,58 @@ pub(crate) fn say_count(word: &[u8], count: u64) {
     say(num::part(&text, 0, end));
 }
 
-// The files of a sound: how many, the channels of each, and the descriptor of the first; that of each other is one more.
+// The files of a sound: how many, and the channels of each.
 #[derive(Clone, Copy)]
 struct Files {
+    sound: Sound,
     count: usize,
     channels: u16,
-    first: i32,
 }
 
 fn files_of(sound: Sound) -> Files {
     match sound {
         Sound::Mix => Files {
+            sound,
             count: 1,
             channels: 2,
-            first: STDOUT,
         },
         Sound::Stems => Files {
+            sound,
             count: 1,
             channels: CHIP_STEMS as u16,
-            first: STDOUT,
         },
         Sound::Split => Files {
+            sound,
             count: CHIP_VOICES,
             channels: 2,
-            first: FIRST_VOICE,
         },
         Sound::Levels => Files {
+            sound,
             count: 0,
             channels: 2,
-            first: STDOUT,
         },
     }
 }
 
 // The descriptor of voice n's file; there are sixteen.
-pub(crate) fn of_voice(first: i32, n: usize) -> i32 {
-    let descriptors = [3, 4, 5, 6, 7, 8, 9, 10, 11, 12, 13, 14, 15, 16, 17, 18];
-    if first == FIRST_VOICE {
-        return descriptors[n.min(CHIP_VOICES - 1)];
-    }
-    first
+pub(crate) fn of_voice(n: usize) -> i32 {
+    FIRST_VOICE + n.min(CHIP_VOICES - 1) as i32
 }
 
-// The bytes of so many frames; not known where the frames are not.
-fn bytes_of(channels: u16, frames: u64) -> u64 {
-    if 0xffff_ffff < frames {
-        return wav::UNKNOWN;
+impl Files {
+    // The descriptor of file n.
+    fn descriptor(self, n: usize) -> i32 {
+        match self.sound {
+            Sound::Split => of_voice(n),
+            Sound::Mix | Sound::Stems | Sound::Levels => STDOUT,
+        }
     }
-    2 * (channels as u64) * frames
+}
+
+// The bytes of so many frames; those of more frames than 32 bits hold are not counted, since no header can hold their number.
+fn bytes_of(channels: u16, frames: u64) -> Option<u64> {
+    let few = u32::try_from(frames).ok()?;
+    Some(2 * (channels as u64) * (few as u64))
 }
 
 // Writes a header over what a descriptor's file has at a place.
@@ -98,10 +104,10 @@ fn put_head(
     descriptor: i32,
     place: Option<u64>,
     channels: u16,
-    frames: u64,
+    frames: Option<u64>,
 ) -> bool {
     let mut text = [0u8; wav::HEADER];
-    let size = bytes_of(channels, frames);
+    let size = frames.and_then(|frames| bytes_of(channels, frames));
     let mut out = Output {
         buffer: &mut text,
         at: 0,
@@ -114,9 +120,9 @@ fn put_head(
 }
 
 // Writes the header of each file.
-fn put_heads(rt: &HostRuntime, files: Files, place: Option<u64>, frames: u64) -> bool {
+fn put_heads(rt: &HostRuntime, files: Files, place: Option<u64>, frames: Option<u64>) -> bool {
     for n in 0..files.count {
-        let descriptor = of_voice(files.first, n);
+        let descriptor = files.descriptor(n);
         if !put_head(rt, descriptor, place, files.channels, frames) {
             return false;
         }
@@ -127,7 +133,7 @@ fn put_heads(rt: &HostRuntime, files: Files, place: Option<u64>, frames: u64) ->
 // The place where the files begin, whose headers are written; none where they cannot be written again. It is known only then: of a file
 // that grows at its end no place is told before something was written to it.
 fn begin_of(rt: &HostRuntime, files: Files) -> Option<u64> {
-    let mut file = program::output_again(rt, files.first)?;
+    let mut file = program::output_again(rt, files.descriptor(0))?;
     let behind = file.stream_position().ok()?;
     behind.checked_sub(wav::HEADER as u64)
 }
@@ -142,22 +148,28 @@ fn cut(rt: &HostRuntime, descriptor: i32, place: u64) {
 // A log that was not played whole leaves no file: what was written is cut off again, where that can be done.
 fn undo(rt: &HostRuntime, files: Files, place: u64) {
     for n in 0..files.count {
-        cut(rt, of_voice(files.first, n), place);
+        cut(rt, files.descriptor(n), place);
     }
 }
 
 // The end of a run whose files begin at a place: a header that has not the right length is written again, where that can be done.
-fn ended(rt: &HostRuntime, files: Files, run: Run, place: Option<u64>, known: u64, out: &mut [u8]) {
+fn ended(
+    rt: &HostRuntime,
+    files: Files,
+    run: Run,
+    place: Option<u64>,
+    known: Option<u64>,
+    out: &mut [u8],
+) {
     if run.state != State::Ended {
         if let Some(begin) = place {
             undo(rt, files, begin);
         }
         return;
     }
-    if run.frames != known {
-        if place.is_some() {
-            put_heads(rt, files, place, run.frames);
-        }
+    let frames = Some(run.frames);
+    if frames != known && place.is_some() {
+        put_heads(rt, files, place, frames);
     }
     if print_last(run, out) {
         say_count(b"played,", run.frames);
@@ -203,15 +215,13 @@ fn read_before(
     rt: &HostRuntime,
     sound: Sound,
     waits: bool,
-    frames: u64,
+    frames: Option<u64>,
     input: &mut [u8],
 ) -> Ahead {
     let files = files_of(sound);
-    if waits {
-        if frames == wav::UNKNOWN {
-            if program::output_again(rt, files.first).is_none() {
-                return read_ahead(rt, input);
-            }
+    if waits && frames.is_none() {
+        if program::output_again(rt, files.descriptor(0)).is_none() {
+            return read_ahead(rt, input);
         }
     }
     Ahead { filled: 0, frames }
@@ -229,7 +239,7 @@ pub(crate) fn make(
     others: &mut [i16],
     out: &mut [u8],
 ) {
-    if let Some(frames) = look_ahead(rt, &mut *input) {
+    if let Ok(frames) = look_ahead(rt, &mut *input) {
         let ahead = read_before(rt, sound, waits, frames, &mut *input);
         write(rt, sound, ahead, input, ram, queues, stems, others, out);
     }

@@ -26,7 +26,7 @@ pub(crate) enum Sound {
 }
 
 // The levels of the frames behind the last tenth of a second.
-#[derive(Clone, Copy)]
+#[derive(Clone, Copy, Default)]
 pub(crate) struct Level {
     pub frames: usize,
     pub left: SideLevel,
@@ -42,6 +42,7 @@ pub(crate) enum State {
     Stopped,
 }
 
+// Kept as it is: the input buffer is lent by the caller and read into again, so what stands in it is told by its places.
 // A log being played: the bytes of the input buffer from `from` to before `filled` are not played yet, and begin with line `number`;
 // `frames` were played.
 #[derive(Clone, Copy)]

@@ -1,24 +1,15 @@
 // The levels of each tenth of a second, a line each: L, the frames, of the left side the peak, the sum of squares and the overs, the same
 // of the right one, and the peak of each of core 0's eight voices.
+use crate::files::NAME;
 use crate::{FRAMES, Level, Run, State};
-use levels::SideLevel;
 use output::Output;
-use program::STDOUT;
+use program::{STDOUT, written};
 use sizes::STEMS;
 
 // A tenth of a second.
 const TENTH: usize = 4800;
 
 impl Level {
-    pub(crate) fn none() -> Level {
-        Level {
-            frames: 0,
-            left: SideLevel::default(),
-            right: SideLevel::default(),
-            voices: [0; 8],
-        }
-    }
-
     // With more frames, by way of two sides of zeros.
     fn with_sides(
         self,
@@ -61,7 +52,6 @@ fn voice_peaks(before: [u32; 8], stems: &[i16]) -> [u32; 8] {
 fn print_level(level: Level, out: &mut [u8]) -> bool {
     let left = level.left;
     let right = level.right;
-    let voices = level.voices;
     let numbers = [
         level.frames as u64,
         left.peak as u64,
@@ -70,14 +60,6 @@ fn print_level(level: Level, out: &mut [u8]) -> bool {
         right.peak as u64,
         right.squares,
         right.overs,
-        voices[0] as u64,
-        voices[1] as u64,
-        voices[2] as u64,
-        voices[3] as u64,
-        voices[4] as u64,
-        voices[5] as u64,
-        voices[6] as u64,
-        voices[7] as u64,
     ];
     let mut line = Output {
         buffer: &mut *out,
@@ -85,9 +67,12 @@ fn print_level(level: Level, out: &mut [u8]) -> bool {
     };
     line.put_byte(b'L');
     sqv4_text::put_fields(&mut line, &numbers);
+    for &peak in &level.voices {
+        sqv4_text::put_fields(&mut line, &[peak as u64]);
+    }
     line.put_byte(10);
     let end = line.at;
-    crate::sounds::written(STDOUT, out, end)
+    written(NAME, STDOUT, num::part(out, 0, end))
 }
 
 // A run whose frames behind the last tenth of a second are printed, if there are any.
@@ -101,9 +86,7 @@ pub(crate) fn print_last(run: Run, out: &mut [u8]) -> bool {
 
 impl Run {
     fn with_level(self, level: Level) -> Run {
-        let mut run = self;
-        run.level = level;
-        run
+        Run { level, ..self }
     }
 }
 
@@ -114,7 +97,7 @@ fn with_part(run: Run, stems: &[i16], others: &[i16], out: &mut [u8]) -> Run {
     if more.frames < TENTH {
         return run.with_level(more);
     }
-    let next = run.with_level(Level::none());
+    let next = run.with_level(Level::default());
     if print_level(more, out) {
         return next;
     }

@@ -14,7 +14,7 @@ impl Run {
     // Nothing read.
     pub(crate) fn begun() -> Run {
         Run {
-            level: Level::none(),
+            level: Level::default(),
             from: 0,
             filled: 0,
             number: 1,
@@ -24,22 +24,25 @@ impl Run {
     }
 
     fn at(self, from: usize, filled: usize) -> Run {
-        let mut run = self;
-        run.from = from;
-        run.filled = filled;
-        run
+        Run {
+            from,
+            filled,
+            ..self
+        }
     }
 
     fn ended(self) -> Run {
-        let mut run = self;
-        run.state = State::Ended;
-        run
+        Run {
+            state: State::Ended,
+            ..self
+        }
     }
 
     pub(crate) fn stopped(self) -> Run {
-        let mut run = self;
-        run.state = State::Stopped;
-        run
+        Run {
+            state: State::Stopped,
+            ..self
+        }
     }
 }
 
@@ -96,11 +99,12 @@ fn told(before: u64, after: u64) {
 impl Run {
     // After some lines, which end at a place.
     pub(crate) fn passed(self, from: usize, count: usize, frames: usize) -> Run {
-        let mut run = self;
-        run.from = from;
-        run.number = std::num::wrapping_add_u64(self.number, count as u64);
-        run.frames = std::num::wrapping_add_u64(self.frames, frames as u64);
-        run
+        Run {
+            from,
+            number: self.number.wrapping_add(count as u64),
+            frames: self.frames.wrapping_add(frames as u64),
+            ..self
+        }
     }
 }
 

@@ -1,21 +1,12 @@
 // What becomes of some frames.
 ghost use Rattle.std.specs.Prelude.{◌≤◌};
 
-use crate::files::{FIRST_VOICE, complain, of_voice};
+use crate::files::{NAME, of_voice};
 use crate::measuring::measured;
 use crate::{FRAMES, Run, Sound};
 use output::Output;
-use program::STDOUT;
+use program::{STDOUT, written};
 use sizes::{NUM_CHANNELS, STEMS};
-
-// Writes the first bytes of out to a descriptor, and answers whether it could.
-pub(crate) fn written(descriptor: i32, out: &[u8], end: usize) -> bool {
-    if io::write_all(descriptor, num::part(out, 0, end)) {
-        return true;
-    }
-    complain(b"the output cannot be written\n");
-    false
-}
 
 // The mix, by way of two sides of zeros.
 fn mix_by(
@@ -32,7 +23,7 @@ fn mix_by(
     };
     wav::put_sides(&mut bytes, left, right);
     let end = bytes.at;
-    written(STDOUT, out, end)
+    written(NAME, STDOUT, num::part(out, 0, end))
 }
 
 fn mix(stems: &[i16], others: &[i16], out: &mut [u8]) -> bool {
@@ -53,7 +44,7 @@ fn all_stems(stems: &[i16], others: &[i16], out: &mut [u8]) -> bool {
         wav::put_samples(&mut bytes, other);
     }
     let end = bytes.at;
-    written(STDOUT, out, end)
+    written(NAME, STDOUT, num::part(out, 0, end))
 }
 
 // Each voice's go to its file; `first` is the first voice of core 0 or 1.
@@ -67,7 +58,7 @@ fn voices(first: usize, stems: &[i16], out: &mut [u8]) -> bool
         };
         wav::put_channel(&mut bytes, stems, channel);
         let end = bytes.at;
-        if !written(of_voice(FIRST_VOICE, first + channel), &*out, end) {
+        if !written(NAME, of_voice(first + channel), num::part(&*out, 0, end)) {
             return false;
         }
     }

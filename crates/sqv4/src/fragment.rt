@@ -33,7 +33,7 @@ fn sound(version: u8, predictor: i16, volume: u8) -> i16
 }
 
 // A run of codes: the samples go to their places, and the state after them comes back.
-// Kept as it is: a struct of version, variant and state would be made at each call and taken apart for crate adpcm, which takes the three apart.
+// Kept as it is: a struct of version, variant and state would be taken apart at once, since `adpcm::decode_at` is public and takes the three apart.
 fn decode_codes(
     version: u8,
     variant: Variant,

@@ -15,13 +15,6 @@ const STDIN: i32 = 0;
 
 const STDOUT: i32 = 1;
 
-// What a call gives: a code and 0, or a state's predictor and index.
-#[derive(Clone, Copy)]
-struct Given {
-    pub first: u64,
-    pub second: u64,
-}
-
 // Number k of a call.
 fn number(call: &[u8; 256], k: usize) -> usize
     requires { k ≤ 7 }
@@ -41,24 +34,21 @@ fn state_of(call: &[u8; 256]) -> State {
     }
 }
 
-fn numbers_of(state: State) -> Given {
-    Given {
-        first: num::bits16(state.predictor) as u64,
-        second: state.index as u64,
-    }
+fn numbers_of(state: State) -> [u64; 2] {
+    [num::bits16(state.predictor) as u64, state.index as u64]
 }
 
-// Makes the call.
-fn answer(call: &[u8; 256], out: &mut [i16]) -> Given {
+// Makes the call. It gives a code and 0, or a state's predictor and index.
+fn answer(call: &[u8; 256], out: &mut [i16]) -> [u64; 2] {
     let version = num::byte_at(call, 8);
     let variant = variant_of(call);
     let state = state_of(call);
     let slice = num::part(call, 64, 64 + number(call, 6).min(192));
     match num::byte_at(call, 0) {
-        0 => Given {
-            first: adpcm::unpack_code(slice, number(call, 3), number(call, 4)) as u64,
-            second: 0,
-        },
+        0 => [
+            adpcm::unpack_code(slice, number(call, 3), number(call, 4)) as u64,
+            0,
+        ],
         1 => numbers_of(adpcm::decode_code(version, variant, state, num::byte_at(call, 40))),
         2 => {
             sqv4::decode_fragment(variant, slice, out);
@@ -70,8 +60,7 @@ fn answer(call: &[u8; 256], out: &mut [i16]) -> Given {
 
 // Writes what a call gives, and the samples of its buffer.
 fn tell(call: &[u8; 256], out: &mut [i16], text: &mut [u8]) {
-    let found = answer(call, out);
-    let values = [found.first, found.second];
+    let values = answer(call, out);
     let mut line = Output {
         buffer: &mut *text,
         at: 0,

@@ -1,6 +1,5 @@
 -- An input that is read byte after byte, and what was read of it.
 use Rattle.std.specs.Prelude.{ℕ, ◌+◌, ◌-◌, ◌%◌, ◌^◌, min, Bool, true, false, cond, List, [], ◌∷◌, take, replicate, ℤ, ◌==◌, nat_lt, slice_set, Option, Some, None}
-use Rattle.adpcm.specs.declared.Variant.TheVariants.{H}
 use Rattle.sqv4_make.specs.declared.Progress.{Progress}
 use Rattle.sqv4_writer.specs.declared.Terms.{Terms}
 use Rattle.sqv4_make.specs.Lines.{first_line, sample_line}
@@ -18,7 +17,7 @@ line_size = 20
 
 -- ---- what was read
 abbrev pub begun_of : Progress
-begun_of = record { line = replicate line_size 0; filled = 0; lines = 0; terms = record { variant = H; rate = 0; volume = 0; index = 0 }; good = true }
+begun_of = record { line = replicate line_size 0; filled = 0; lines = 0; terms = None; good = true }
 
 abbrev pub spoiled_of : Progress → Progress
 spoiled_of m = record { line = m.line; filled = m.filled; lines = m.lines; terms = m.terms; good = false }
@@ -32,7 +31,7 @@ abbrev pub line_read : Progress → List ℕ
 line_read m = take (min m.filled line_size) m.line
 
 abbrev pub headed_by : Progress → Option Terms → Progress
-headed_by m (Some terms) = record { line = m.line; filled = 0; lines = 1; terms = terms; good = true }
+headed_by m (Some terms) = record { line = m.line; filled = 0; lines = 1; terms = Some terms; good = true }
 headed_by m None = spoiled_of m
 
 abbrev pub sampled_by : Progress → Option ℤ → Progress

@@ -20,7 +20,7 @@ pub(crate) struct Progress {
     pub line: [u8; 20],
     pub filled: usize,
     pub lines: u64,
-    pub terms: Terms,
+    pub terms: Option<Terms>,
     // Kept as it is: the other fields count where it is false too, for `lines` says which line is bad.
     pub good: bool,
 }

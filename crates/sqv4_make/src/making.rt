@@ -6,7 +6,6 @@ ghost use Rattle.sqv4_make.specs.Making.{samples_ended, step_of, samples_step, f
 
 use crate::Progress;
 use crate::lines::{first_line, sample_line};
-use adpcm::Variant;
 use sqv4_writer::{StreamError, Terms};
 
 // The longest line: `2,4294967295,255,255`.
@@ -20,12 +19,7 @@ pub(crate) fn begun() -> Progress
         line: [0; 20],
         filled: 0,
         lines: 0,
-        terms: Terms {
-            variant: Variant::H,
-            rate: 0,
-            volume: 0,
-            index: 0,
-        },
+        terms: None,
         good: true,
     }
 }
@@ -53,11 +47,11 @@ fn headed(making: Progress, first: Option<Terms>) -> Progress
 {
     let line = making.line;
     match first {
-        Some(terms) => Progress {
+        Some(_) => Progress {
             line,
             filled: 0,
             lines: 1,
-            terms,
+            terms: first,
             good: true,
         },
         None => spoiled(making),
@@ -158,18 +152,20 @@ pub(crate) fn is_whole(making: Progress) -> bool
     false
 }
 
-// Makes the file of all samples.
-pub(crate) fn make(making: Progress, samples: &[i16], file: &mut [u8]) -> Result<usize, StreamError>
-    requires { (1 ≤ making.lines) × (length samples.now ≡ most_samples) × (length file.old ≡ most_bytes) }
-    ensures result { result ≡ answer_for (making.lines - 1) making.terms.variant making.terms.rate making.terms.volume
-        making.terms.index most_bytes }
+// Makes the file of all samples, of so many lines with the first.
+pub(crate) fn make(
+    lines: u64,
+    terms: Terms,
+    samples: &[i16],
+    file: &mut [u8],
+) -> Result<usize, StreamError>
+    requires { (1 ≤ lines) × (length samples.now ≡ most_samples) × (length file.old ≡ most_bytes) }
+    ensures result { result ≡ answer_for (lines - 1) terms.variant terms.rate terms.volume terms.index most_bytes }
     ensures file { file.new
         ≡ written_into file.old
-        (file_of (take (making.lines - 1) samples.now) making.terms.variant making.terms.rate making.terms.volume
-        making.terms.index) result }
+        (file_of (take (lines - 1) samples.now) terms.variant terms.rate terms.volume terms.index) result }
 {
-    let terms = making.terms;
-    let count = (making.lines - 1) as usize;
+    let count = (lines - 1) as usize;
     sqv4_writer::answer_for(count, terms, file.len())?;
     sqv4_writer::write_stream(&samples[..count], terms, file)
 }

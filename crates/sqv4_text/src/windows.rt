@@ -15,12 +15,12 @@ const HEAD: usize = 16;
 const FRAGMENTS: usize = 900;
 
 // Where a walk over the windows stands: `rest` samples of a channel are in the windows that follow; what the last one was found to be;
-// where the printing stands.
+// where the printing stands, if the file is not only checked.
 #[derive(Clone, Copy)]
 struct Walk {
     rest: usize,
     found: Result<Header, InspectError>,
-    place: Place,
+    place: Option<Place>,
 }
 
 // The input opened again, the place where it began, and the buffer that it is read into.
@@ -110,21 +110,18 @@ fn next_window(source: &mut Source<'_>, header: Header, rest: usize) -> usize {
     end
 }
 
+// Prints a window from a place on, and answers where the printing goes on; of a file that is only checked there is no place.
 fn printed(
     header: Header,
-    place: Place,
-    prints: bool,
+    place: Option<Place>,
     file: &[u8],
     text: &mut Output<'_>,
-) -> Place {
-    if prints {
-        return print_pieces(header, place, file, text);
-    }
-    place
+) -> Option<Place> {
+    Some(print_pieces(header, place?, file, text))
 }
 
 // The check of a window, after which it is printed, if it is to be.
-fn passed(header: Header, walk: Walk, prints: bool, file: &[u8], text: &mut Output<'_>) -> Walk {
+fn passed(header: Header, walk: Walk, file: &[u8], text: &mut Output<'_>) -> Walk {
     let place = walk.place;
     let found = sqv4::inspect(file);
     let Ok(own) = found else {
@@ -138,37 +135,24 @@ fn passed(header: Header, walk: Walk, prints: bool, file: &[u8], text: &mut Outp
     Walk {
         rest: walk.rest.wrapping_sub(samples),
         found,
-        place: printed(own, place, prints, file, text),
+        place: printed(own, place, file, text),
     }
 }
 
-fn step(
-    source: &mut Source<'_>,
-    header: Header,
-    walk: Walk,
-    prints: bool,
-    text: &mut Output<'_>,
-) -> Walk {
+fn step(source: &mut Source<'_>, header: Header, walk: Walk, text: &mut Output<'_>) -> Walk {
     let end = next_window(&mut *source, header, walk.rest);
-    passed(
-        header,
-        walk,
-        prints,
-        num::part(&*source.window, 0, end),
-        text,
-    )
+    passed(header, walk, num::part(&*source.window, 0, end), text)
 }
 
-// All windows of a file, behind its header.
+// All windows of a file, behind its header, printed from a place on or only checked.
 fn walked(
     source: &mut Source<'_>,
     header: Header,
-    place: Place,
-    prints: bool,
+    place: Option<Place>,
     text: &mut Output<'_>,
 ) -> Walk {
     let mut walk = Walk {
-        rest: place.rest,
+        rest: header.samples_per_channel,
         found: Ok(header),
         place,
     };
@@ -176,7 +160,7 @@ fn walked(
         if walk.rest == 0 {
             return walk;
         }
-        walk = step(&mut *source, header, walk, prints, &mut *text);
+        walk = step(&mut *source, header, walk, &mut *text);
     }
     walk
 }
@@ -187,9 +171,7 @@ fn checked(
     header: Header,
     text: &mut Output<'_>,
 ) -> Result<Header, InspectError> {
-    let place = begun(header.samples_per_channel);
-    let walk = walked(source, header, place, false, text);
-    walk.found
+    walked(source, header, None, text).found
 }
 
 // Prints a file that is taken.
@@ -198,7 +180,7 @@ fn print_taken(source: &mut Source<'_>, header: Header, text: &mut Output<'_>) {
     again(&mut *source);
     read_head(&mut *source);
     let first = begun(header.samples_per_channel);
-    walked(source, header, first, true, text);
+    walked(source, header, Some(first), text);
 }
 
 // Prints a file whose length is right.

@@ -5,7 +5,7 @@ use Prim.Native.Nat.{ℕ, zero, suc, ◌+◌, ◌*◌, ◌^◌, ◌<◌, ◌≤�
 use native.Mathlib.Omega.{arith}
 use lib.IntN.{ℤ}
 use lib.ListN.{length, get_or, set, take, drop, replicate, length-replicate}
-use lib.Seq.{sets, length-sets, sets-eq, take-append-le, take_all}
+use lib.Seq.{sets, sets-eq, take-append-le, take_all}
 use lib.Pow.{pow_pos, lt_of_le_ones}
 use Rattle.num.proofs.Lists.{each_set}
 use Rattle.adpcm.specs.declared.Variant.{Variant}

@@ -1,13 +1,14 @@
 -- The nearest code: none is nearer, and a smaller one is farther. Assumes nothing.
-use mathlib.Core.Path.{◌≡◌, refl, ap}
+use mathlib.Core.Path.{◌≡◌, refl, ap, ◌∙◌}
 use mathlib.Core.Bool.{Bool, true, false}
-use Prim.Native.Nat.{ℕ, zero, suc, ◌+◌, ◌<◌, ◌≤◌}
-use native.Mathlib.Numerals.{add-one}
+use Prim.Native.Nat.{ℕ, zero, suc, ◌-◌, ◌<◌, ◌≤◌}
 use native.Mathlib.Omega.{arith}
 use lib.Dec.{ltb, leb}
 use borrow.Author.Tests.{ltb-true, ltb-false, leb-true, leb-false, lt-ltb, le-ltb}
 use Rattle.num.proofs.Choice.{cond-by}
-use Rattle.sqv4_writer.specs.Choice.{nearest_of}
+use Rattle.adpcm.specs.declared.Variant.{Variant}
+use Rattle.adpcm.specs.declared.Variant.TheVariants.{H, L, LPlus}
+use Rattle.sqv4_writer.specs.Choice.{nearest_of, last_code}
 
 pub record IsNearest (distance : ℕ → ℕ) (n code : ℕ) : Type 0 where
   pub there : code ≤ n
@@ -38,14 +39,22 @@ nearest d (suc n) = cond-by (IsNearest d (suc n)) (ltb (d (suc n)) (d (nearest_o
     kept : IsNearest d n (nearest_of d n) → d (nearest_of d n) ≤ d (suc n) → IsNearest d (suc n) (nearest_of d n)
     kept r h = record { there = omega (arith, r.there); least = λ c g. last c g (r.least c) (λ q. let f : d c ≡ d (suc n) = ap d q in omega arith); smallest = λ c g. r.smallest c g }
 
--- ---- the search, where the numbers up to `code` were looked at
-module _ (d : ℕ → ℕ) (best least code far : ℕ) (is : best ≡ nearest_of d code) (there : least ≡ d best) (next : far ≡ d (code + 1)) where
+-- ---- the search, where the numbers below `code` were looked at
+module _ (d : ℕ → ℕ) (best least far : ℕ) (there : least ≡ d best) where
   -- the next is nearer
-  pub nearer : far < least → code + 1 ≡ nearest_of d (code + 1)
+  pub nearer : (code : ℕ) → 1 ≤ code → best ≡ nearest_of d (code - 1) → far ≡ d code → far < least → code ≡ nearest_of d code
   unfolding nearest_of
-  nearer h = rw (add-one code, lt-ltb (d (suc code)) (d (nearest_of d code)) (omega (arith, next, there, ap d is, ap d (add-one code))))
+  nearer zero g is next h = absurd (omega arith)
+  nearer (suc n) g is next h = let e : best ≡ nearest_of d n = is ∙ ap (nearest_of d) (omega arith) in rw (lt-ltb (d (suc n)) (d (nearest_of d n)) (omega (arith, next, there, ap d e)))
 
   -- it is not
-  pub not-nearer : least ≤ far → best ≡ nearest_of d (code + 1)
+  pub not-nearer : (code : ℕ) → 1 ≤ code → best ≡ nearest_of d (code - 1) → far ≡ d code → least ≤ far → best ≡ nearest_of d code
   unfolding nearest_of
-  not-nearer h = rw (add-one code, le-ltb (d (suc code)) (d (nearest_of d code)) (omega (arith, next, there, ap d is, ap d (add-one code)))) is
+  not-nearer zero g is next h = absurd (omega arith)
+  not-nearer (suc n) g is next h = let e : best ≡ nearest_of d n = is ∙ ap (nearest_of d) (omega arith) in rw (le-ltb (d (suc n)) (d (nearest_of d n)) (omega (arith, next, there, ap d e))) e
+
+-- each variant has more codes than one
+pub codes-more : (k : Variant) → 1 ≤ last_code k
+codes-more H = omega arith
+codes-more L = omega arith
+codes-more LPlus = omega arith

@@ -37,8 +37,7 @@ fn nearest_code(variant: Variant, state: State, size: u16, volume: u8, sample: i
     let last = last_code(variant);
     let mut best = 0u8;
     let mut least = distance(variant, state, size, volume, sample, 0);
-    for below in 0..last {
-        let code = below + 1;
+    for code in 1..=last {
         let far = distance(variant, state, size, volume, sample, code);
         if far < least {
             best = code;

@@ -21,6 +21,7 @@ pub(crate) fn pack(codes: [u8; 64], bits: usize) -> [u8; 32]
     let mut bytes = [0u8; 32];
     let mut held: u32 = 0;
     let mut filled: usize = 0;
+    // Kept as it is: only some turns end a byte, so its place is counted with it.
     let mut end: usize = 0;
     for code in codes {
         held |= (code as u32) << (filled as u32);

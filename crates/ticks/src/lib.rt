@@ -33,7 +33,7 @@ pub struct Target {
 pub struct Setting {
     pub volume: u8,
     pub panpot: u8,
-    // Kept as it is: crate tone, below the registers, takes the number, so an enum here would be turned into it for each tick.
+    // Kept as it is: the field is public and takes every number; an enum would ask more of callers.
     pub modulation: u8,
     pub param_1: u16,
     pub param_2: u16,

@@ -46,20 +46,18 @@ module _ (k : Clockwork) (l : List ℕ) (from : ℕ) where
   unfolding next_due first_line
   due-past h = rw (drop_of_length-le l h)
 
-  module _ (stop : ℕ) (s : stop ≡ from + length (first_line (drop from l))) (h : from < length l) where
-    pub due-rest : stop ≡ length l → stop - from ≤ longest → Ok None ≡ next_due k (drop from l) from
+  module _ (e : length (first_line (drop from l)) ≡ length (drop from l)) where
+    pub due-rest : length l - from ≤ longest → Ok None ≡ next_due k (drop from l) from
     unfolding next_due
-    due-rest e m =
-        rw (eq-eqb (length (first_line (drop from l))) (length (drop from l)) (omega (arith, length-drop from l)), le-leb (length (drop from l)) longest (omega (arith, length-drop from l)))
+    due-rest m = rw (eq-eqb (length (first_line (drop from l))) (length (drop from l)) e, le-leb (length (drop from l)) longest (omega (arith, length-drop from l)))
 
-    pub due-long : stop ≡ length l → longest < stop - from → Err Malformed ≡ next_due k (drop from l) from
+    pub due-long : longest < length l - from → Err Malformed ≡ next_due k (drop from l) from
     unfolding next_due
-    due-long e m =
-        rw (eq-eqb (length (first_line (drop from l))) (length (drop from l)) (omega (arith, length-drop from l)), lt-leb (length (drop from l)) longest (omega (arith, length-drop from l)))
+    due-long m = rw (eq-eqb (length (first_line (drop from l))) (length (drop from l)) e, lt-leb (length (drop from l)) longest (omega (arith, length-drop from l)))
 
-    pub due-line : (stop ≡ length l → ⊥) → placed from (length (first_line (drop from l))) (judged k (due_of (first_line (drop from l)))) ≡ next_due k (drop from l) from
-    unfolding next_due
-    due-line n = rw (ne_eqb (length (first_line (drop from l))) (length (drop from l)) (λ e. n (omega (arith, length-drop from l))))
+  pub due-line : (stop : ℕ) → stop ≡ from + length (first_line (drop from l)) → stop < length l → placed from (length (first_line (drop from l))) (judged k (due_of (first_line (drop from l)))) ≡ next_due k (drop from l) from
+  unfolding next_due
+  due-line stop s n = rw (ne_eqb (length (first_line (drop from l))) (length (drop from l)) (λ e. absurd (omega (arith, length-drop from l))))
 
 -- ---- a line that is due
 pub record IsDue (text : List ℕ) (stamp from : ℕ) : Type 0 where

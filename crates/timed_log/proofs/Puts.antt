@@ -1,17 +1,15 @@
 -- Lines written out, put into a buffer; the clockwork behind a line. Assumes nothing.
-use mathlib.Core.Path.{◌≡◌, refl, ap, ◌∙◌}
-use mathlib.Core.List.{List, [], ◌∷◌, ◌++◌}
-use Prim.Native.Nat.{ℕ, ◌+◌, ◌-◌, ◌≤◌, ◌<◌}
+use mathlib.Core.Path.{◌≡◌}
+use mathlib.Core.List.{List, [], ◌++◌}
+use Prim.Native.Nat.{ℕ, ◌+◌, ◌<◌}
 use native.Mathlib.Numerals.{add-one}
-use native.Mathlib.Omega.{arith}
-use lib.ListN.{length}
 use borrow.Author.Tests.{eq-eqb, ne_eqb}
 use Rattle.output.specs.declared.Output.{Output}
 use Rattle.output.specs.Output.{Puts}
 use Rattle.output.proofs.Writing.{puts-append}
 use Rattle.timed_log.specs.declared.Clockwork.{Clockwork}
 use Rattle.timed_log.specs.Lines.{frame_most, due_already}
-use Rattle.timed_log.specs.Unrolled.{clock_line, clock_text, clockwork, applied}
+use Rattle.timed_log.specs.Unrolled.{clock_text, clockwork, applied}
 use Rattle.timed_log.specs.Unrolls.{gap_text}
 
 -- ---- the frames before a line

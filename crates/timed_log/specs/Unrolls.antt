@@ -1,5 +1,5 @@
 -- Some of a timed log written out into a buffer, line by line.
-use Rattle.std.specs.Prelude.{Ok, Some, None, Err, Bool, false, cond, List, [], ◌++◌, ℕ, zero, suc, ◌+◌, ◌-◌, eqb, leb, ltb, length, drop}
+use Rattle.std.specs.Prelude.{Ok, Some, None, Err, Bool, cond, List, [], ◌++◌, ℕ, zero, suc, ◌+◌, ◌-◌, eqb, ltb, length, drop}
 use Rattle.num.specs.Lists.{part}
 use Rattle.log_player.specs.Runs.{has_room_of}
 use Rattle.timed_log.specs.declared.Clockwork.{Clockwork}

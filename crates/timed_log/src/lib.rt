@@ -24,8 +24,8 @@ pub struct Due {
 // The same, or why the line is bad.
 pub type TimedLine = Result<Due, LineFault>;
 
-// The frames that a log has written out, and how many lines stand behind them.
-#[derive(Clone, Copy)]
+// The frames that a log has written out, and how many lines stand behind them; none of either by default.
+#[derive(Clone, Copy, Default)]
 pub struct Clockwork {
     pub frames: u32,
     pub lines: u32,

@@ -13,12 +13,8 @@ fn stamped(stamp: u32, from: usize, line: Result<Line, LineFault>) -> TimedLine
     ensures { result ≡ stamped_line stamp from line }
 {
     match line? {
-        Line::Write { .. } => Ok(Due { stamp, from }),
-        Line::WriteRam { .. } => Ok(Due { stamp, from }),
-        Line::Read(_) => Ok(Due { stamp, from }),
-        Line::Peek(_) => Ok(Due { stamp, from }),
         Line::Clock(_) => Err(LineFault::Malformed),
-        Line::Version(_) => Ok(Due { stamp, from }),
+        _ => Ok(Due { stamp, from }),
     }
 }
 
@@ -26,18 +22,13 @@ fn stamped(stamp: u32, from: usize, line: Result<Line, LineFault>) -> TimedLine
 fn due(text: &[u8]) -> TimedLine
     ensures { result ≡ due_of text.now }
 {
-    let taken = decimal::take_natural(text, 0);
-    let Some((value, next)) = taken else {
-        return Err(LineFault::Malformed);
-    };
-    if 0xFFFF_FFFF < value {
-        return Err(LineFault::Malformed);
-    }
+    let (value, next) = decimal::take_natural(text, 0).ok_or(LineFault::Malformed)?;
+    let stamp = u32::try_from(value).ok().ok_or(LineFault::Malformed)?;
     if num::byte_at(text, next) != 44 {
         return Err(LineFault::Malformed);
     }
     let line = log_lines::parse(num::tail(text, next + 1));
-    stamped(value as u32, next + 1, line)
+    stamped(stamp, next + 1, line)
 }
 
 impl Clockwork {
@@ -65,13 +56,12 @@ impl Clockwork {
         if input.len() <= from {
             return Ok(None);
         }
-        let stop = log_player::line_end(input, from);
-        if stop == input.len() {
-            if stop - from <= LONGEST {
+        let Some(stop) = log_player::line_end(input, from) else {
+            if input.len() - from <= LONGEST {
                 return Ok(None);
             }
             return Err(LineFault::Malformed);
-        }
+        };
         let due = self.judged(due(&input[from..stop]))?;
         Ok(Some(LineAhead {
             stamp: due.stamp,

@@ -8,7 +8,7 @@ ghost use Rattle.log_player.specs.Runs.{stop_text};
 ghost use Rattle.timed_log.specs.Turns.{made_timed, standing, left_of, goes_on, next_at, played_on, told, written_out, turn_over, timed_to};
 
 use crate::{Ahead, Clockwork, MadeTimed, Timed, TimedRan};
-use log_player::{Next, Player, Stop};
+use log_player::{Next, Player};
 use output::Output;
 
 // What is left of a text that was played to `from`: nothing where no whole line is.
@@ -33,11 +33,7 @@ fn goes_on(place: usize, next: Next) -> Next
 fn next_at(place: usize, found: Ahead) -> Next
     ensures { result ≡ next_at place found }
 {
-    match found {
-        Ok(Some(_)) => Ok(Some(place)),
-        Ok(None) => Ok(None),
-        Err(why) => Err(Stop::Bad(why)),
-    }
+    Ok(found?.map(|_| place))
 }
 
 // A bad line is told.
@@ -61,7 +57,7 @@ impl Timed {
         let answer = made.answer;
         let timed = Timed {
             player,
-            clock: Clockwork::new(),
+            clock: Clockwork::default(),
             from: 0,
             end: 0,
         };

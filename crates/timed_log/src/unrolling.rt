@@ -4,7 +4,7 @@ ghost use Rattle.std.proofs.lemmas.List.Edits.{sets};
 ghost use Rattle.output.specs.Output.{Puts};
 ghost use Rattle.num.specs.Lists.{part};
 ghost use Rattle.timed_log.specs.Lines.{frame_most, due_already};
-ghost use Rattle.timed_log.specs.Unrolled.{clock_most, clock_text, clockwork, no_frames, applied};
+ghost use Rattle.timed_log.specs.Unrolled.{clock_most, clock_text, clockwork, applied};
 ghost use Rattle.timed_log.specs.Unrolls.{gap_text, reach, unroll_from, unrolled_as, unrolled_to};
 
 use crate::{Clockwork, Unrolled};
@@ -35,16 +35,6 @@ fn put_line(out: &mut Output<'_>, gap: u32, line: &[u8])
 }
 
 impl Clockwork {
-    // Nothing is written out yet.
-    pub fn new() -> Clockwork
-        ensures { result ≡ no_frames }
-    {
-        Clockwork {
-            frames: 0,
-            lines: 0,
-        }
-    }
-
     // A line with this stamp is written out.
     fn applied(self, stamp: u32) -> Clockwork
         requires { due_already self stamp < frame_most }

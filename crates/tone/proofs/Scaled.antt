@@ -1,14 +1,10 @@
 -- A division of the magnitude, with the sign put back, goes toward zero; three divisions are one. Assumes nothing.
-use Rattle.std.proofs.Common.{◌≡◌, ℕ, zero, suc, ◌*◌, ◌/◌, ◌<◌, ◌≤◌, ℤ, pos, negsuc, ◌*ℤ◌, neg_ℤ, nat_abs, refl, ap, ◌∙◌, arith}
+use Rattle.std.proofs.Common.{◌≡◌, ℕ, zero, suc, ◌*◌, ◌/◌, ◌<◌, ℤ, pos, negsuc, ◌*ℤ◌, neg_ℤ, nat_abs, refl, ap, ◌∙◌, arith}
 use native.Mathlib.Nat as N
 use lib.Signed.{quot_z}
 use Rattle.num.specs.Integers.{up, down}
 use Rattle.num.proofs.Integers.{z-eq, up-quot, down-quot}
 use Rattle.tone.specs.Mix.{master_gain}
-
-pub scaled-pos : (z : ℤ) (f d : ℕ) → down z ≡ 0 → pos (nat_abs z * f / d) ≡ quot_z (z *ℤ pos f) (pos d)
-scaled-pos (pos n) f d h = refl
-scaled-pos (negsuc n) f d h = absurd (omega arith)
 
 pub scaled-neg : (z : ℤ) (f d : ℕ) → 0 < down z → neg_ℤ (pos (nat_abs z * f / d)) ≡ quot_z (z *ℤ pos f) (pos d)
 scaled-neg (pos n) f d h = absurd (omega arith)
@@ -17,10 +13,6 @@ scaled-neg (negsuc n) f d h = at (suc n * f)
     at : (m : ℕ) → neg_ℤ (pos (m / d)) ≡ quot_z (neg_ℤ (pos m)) (pos d)
     at zero = rw N.zero-div
     at (suc m) = refl
-
--- the part that a factor and a divisor leave of a bounded magnitude
-pub scaled-size : (n f d : ℕ) → n ≤ 8388608 → f ≤ 255 → n * f / d ≤ 2139095040
-scaled-size n f d h l = N.le_trans (N.div-le_self (n * f) d) (N.mul-le-mul h l)
 
 -- the master gain after a division
 pub gain-once : (z : ℤ) (a : ℕ) → master_gain (quot_z z (pos a)) ≡ quot_z z (pos (a * 2 * 4))

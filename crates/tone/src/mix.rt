@@ -1,5 +1,7 @@
 // From a centred value to the sides of a frame. Every division goes toward zero.
-ghost use Rattle.std.specs.Prelude.{◌≡◌, ◌<◌, ◌≤◌, pos, ◌*ℤ◌, int_div, unsigned_abs};
+// Kept as it is: an oscillator's value and a stream's differ in width, in divisor and in that a stream's is cut to 24 bits; one function for both needs a trait with
+// all three, and is longer than these lines.
+ghost use Rattle.std.specs.Prelude.{◌≡◌, ◌≤◌, unsigned_abs};
 ghost use Rattle.num.specs.Integers.{up, down};
 ghost use Rattle.num.specs.Integers.{clamp16 as clamped16};
 ghost use Rattle.tone.specs.Mix.{stream_value, last_sample_of, stream_last_sample, volume_of, stream_volume_of, master_gain, high_nibble};
@@ -10,22 +12,7 @@ ghost use Rattle.tone.specs.Mix.{pan as pan_of};
 fn stream_value(q8: i32) -> i32
     ensures { result ≡ stream_value q8 }
 {
-    if q8 < -8388608 {
-        return -8388608;
-    }
-    if 8388607 < q8 {
-        return 8388607;
-    }
-    q8
-}
-
-// A factor, and a division of the magnitude.
-fn scaled(z: i32, factor: u8, divisor: u32) -> i32
-    requires { (unsigned_abs z ≤ 8388608) × (0 < divisor) }
-    ensures { result ≡ int_div (z *ℤ pos factor) (pos divisor) }
-{
-    let n = (z.unsigned_abs() * (factor as u32) / divisor) as i32;
-    if z < 0 { -n } else { n }
+    q8.clamp(-8388608, 8388607)
 }
 
 // The whole samples of a value, rounded down.
@@ -68,7 +55,7 @@ pub fn gained(q8: i16, volume: u8) -> i16
 pub fn stream_gained(q8: i32, volume: u8) -> i16
     ensures { result ≡ master_gain (stream_volume_of q8 volume) }
 {
-    scaled(stream_value(q8), volume, 522240) as i16
+    (stream_value(q8) * (volume as i32) / 522240) as i16
 }
 
 // A sample at the master gain: halved, then a quarter of it.

@@ -15,7 +15,7 @@ pub fn is_ram_length(length: usize) -> bool
     if RAM_MOST < length {
         return false;
     }
-    u32::count_ones(length as u32) == 1
+    length.is_power_of_two()
 }
 
 // Masks are the length less one.
@@ -30,7 +30,7 @@ pub fn pcm_address(position: u64, start: u32, length: usize) -> usize
     ensures result { result ≡ pcm_address position start length }
     ensures upper_bound { 0 < length → result < length }
 {
-    (std::num::wrapping_add_u64(position, start as u64) as usize) & mask_of(length)
+    (position.wrapping_add(start as u64) as usize) & mask_of(length)
 }
 
 // Whether a PCM control byte asks for a loop.
@@ -46,7 +46,7 @@ pub fn pcm_next(address: usize, end: u32, loop_addr: u32, control: u8, length: u
     ensures upper_bound { address < length → result < length }
 {
     let mask = mask_of(length);
-    let next = std::num::wrapping_add_usize(address, 1);
+    let next = address.wrapping_add(1);
     if next < end as usize {
         return next & mask;
     }
@@ -76,7 +76,7 @@ pub fn pcm_phase_after(
     ensures { result ≡ pcm_phase_after phase address start end loop_addr control step }
 {
     if address < end as usize {
-        return std::num::wrapping_add_u64(phase, step);
+        return phase.wrapping_add(step);
     }
     if loops(control) {
         return phase_from(start, loop_addr);

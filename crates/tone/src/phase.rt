@@ -50,7 +50,7 @@ pub fn fraction(phase: u64) -> u8
 pub fn stepped(phase: u64, step: u64) -> u64
     ensures { result ≡ stepped_by phase step }
 {
-    std::num::wrapping_add_u64(phase, step)
+    phase.wrapping_add(step)
 }
 
 // The phase of a whole sample.
@@ -72,5 +72,5 @@ pub fn moved(position: u64, by: i32) -> u64
     ensures { result ≡ moved_by position by }
 {
     let raised = ((by as i64) + 2147483648) as u64;
-    std::num::wrapping_sub_u64(std::num::wrapping_add_u64(position, raised), 2147483648)
+    position.wrapping_add(raised).wrapping_sub(2147483648)
 }

@@ -69,6 +69,7 @@ pub fn slew_step(current: u16, q8: u16, step: u16) -> u16
 }
 
 // The slew register after a tick: modulation 5 is the rate, 6 the step.
+// Kept as it is: `slew` and `slewed` are public and take every number; an enum would ask more of callers.
 #[tactic(auto, unfolding(crate::specs::Shape::slew))]
 pub fn slew(modulation: u8, current: u16, q8: u16, step: u16) -> u16
     ensures result { result ≡ slew_of modulation current q8 step }

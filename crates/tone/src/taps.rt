@@ -48,7 +48,7 @@ pub fn blend(current: u8, next: u8, fraction: u8) -> u16
 }
 
 // The same of a stream's samples.
-// Kept as it is: one function for bytes and samples needs a trait with both conversions; this line is shorter. So it is with `blend`.
+// Kept as it is: one function for bytes and samples needs a trait with both conversions; this line is shorter.
 pub fn raised_sample(sample: i16) -> i32
     ensures result { result ≡ raised_sample sample }
     ensures bound { (up result ≤ 8388607) × (down result ≤ 8388608) }

@@ -20,6 +20,7 @@ use voice::Channel;
 
 // A voice's decoded fragments are the 128 samples from 128 times the channel on, its wavetable the 256 bytes from 256 times
 // the channel on.
+// Kept as it is: the three are public fields, a register's address counts over all eight wavetables, and a channel is copied without its tables.
 #[derive(Clone, Copy)]
 pub struct Core {
     pub channels: [Channel; 8],

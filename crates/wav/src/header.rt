@@ -1,16 +1,14 @@
 // The header of a WAV file: a RIFF chunk of form WAVE that holds a format chunk of plain PCM and the samples.
 ghost use Rattle.std.specs.Prelude.{◌≡◌, ◌*◌, ◌<◌, ◌≤◌, ◌^◌};
+ghost use Rattle.std.specs.Option.{unwrap_or};
 ghost use Rattle.output.specs.Output.{Puts};
 ghost use Rattle.sqv4_writer.specs.Packing.{bytes_of};
-ghost use Rattle.wav.specs.Headers.{block_align, size_in, riff_size, format_chunk, wav_header};
+ghost use Rattle.wav.specs.Headers.{block_align, largest_size, size_in, riff_size, format_chunk, wav_header};
 
 use output::Output;
 
 // The bytes of a header.
 pub const HEADER: usize = 44;
-
-// The length of samples that is not known yet, as no header can hold it.
-pub const UNKNOWN: u64 = 0xffff_ffff_ffff_ffff;
 
 // The largest size that four bytes hold.
 const LARGEST: u64 = 0xffff_ffff;
@@ -66,10 +64,11 @@ fn put_format(out: &mut Output<'_>, channels: u16, rate: u32, bits: u16)
     put_low(out, bits as u64, 2);
 }
 
-// Puts the header of a file of so many bytes of samples.
-pub fn put_header(out: &mut Output<'_>, channels: u16, rate: u32, bits: u16, size: u64)
-    ensures { Puts out.old out.new (wav_header channels rate bits size) }
+// Puts the header of a file of so many bytes of samples; where their number is not known, that of more than a header can hold.
+pub fn put_header(out: &mut Output<'_>, channels: u16, rate: u32, bits: u16, size: Option<u64>)
+    ensures { Puts out.old out.new (wav_header channels rate bits (unwrap_or size largest_size)) }
 {
+    let size = size.unwrap_or(LARGEST);
     out.put_bytes(b"RIFF");
     put_low(&mut *out, riff_size(size), 4);
     out.put_bytes(b"WAVE");

@@ -4,5 +4,5 @@
 mod header;
 mod samples;
 
-pub use header::{HEADER, UNKNOWN, put_header};
+pub use header::{HEADER, put_header};
 pub use samples::{put_channel, put_samples, put_sides};

@@ -1,8 +1,9 @@
-use Rattle.std.proofs.Common.{length, refl, ap, ◌∙◌, subst, arith}
+use Rattle.std.proofs.Common.{◌-◌, length, refl, ap, ◌∙◌, subst, arith}
 use lib.Seq.{sets}
 use Rattle.voices.proofs.Accepting.{accepted-core, core-accepted}
 use Rattle.frames.specs.Listing.{Listed, lent_list, after_list, AcceptedAfter}
 use Rattle.frames.specs.declared.Going.{Going}
+use Rattle.frames.proofs.Counts.{stored-part}
 use Rattle.frames.proofs.Fits.{sized}
 use Rattle.frames.proofs.Runs.{RunStored, run-none, stored-by, ran-none, run_room, stored-accepted, run-made, ran-all, all-before}
 use Rattle.frames.proofs.lists.play_runs.Goals as goal
@@ -21,7 +22,7 @@ stored c =
     let l = c.loop-i in
     let end = c.run_end-end.result in
     elim c.if-i-end.branch [
-      | then-i-end w ↦ stored-by a.kinds.now a.addresses.now l.values l.i end l.ram l.core _ _ _ _ w.ram-is w.core-is (record { bytes = w.store_bytes.ensures; caches = w.after_ram_writes-core.ensures })
+      | then-i-end w ↦ stored-by a.kinds.now a.addresses.now l.values l.i end l.ram l.core _ _ _ _ w.ram-is w.core-is (record { bytes = w.store_bytes.ensures ∙ stored-part a.addresses.now l.values l.i l.ram (end - l.i) (omega (arith, c.run_end-end.ensures.bounds.0, c.run_end-end.ensures.bounds.1, l.invariant.2)); caches = w.after_ram_writes-core.ensures })
       | else-i-end w ↦ stored-by a.kinds.now a.addresses.now l.values l.i end l.ram l.core _ _ _ _ w.ram-is w.core-is (run-none a.kinds.now a.addresses.now l.values l.i end l.ram l.core w.if-i-end.false)
     ]
 

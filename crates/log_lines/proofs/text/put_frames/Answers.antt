@@ -1,9 +1,8 @@
-use mathlib.Core.Path.{◌≡◌, refl, ap}
-use mathlib.Core.Logic.{inl, inr}
+use mathlib.Core.Path.{◌≡◌, refl}
 use mathlib.Core.List.{[], ◌∷◌, ◌++◌}
-use Prim.Native.Nat.{◌+◌, min}
+use Prim.Native.Nat.{◌+◌}
 use native.Mathlib.Omega.{arith}
-use lib.ListN.{length, length-append, length-drop}
+use lib.ListN.{length, length-append}
 use borrow.Author.Rules.{rules}
 use mir.Val.{SFits}
 use mir.Syntax.{w32}
@@ -28,18 +27,3 @@ loop-l-preserved c =
     let a : SFits w32 c.in-Some.field-0-0.now = search rules in
     let b : SFits w32 c.in-Some.field-0-1.now = search rules in
     rw n (omega (arith, l.0, r.0), l.2, r.2, frames-length-next c.args.left.now c.args.right.now i v.3, frames-next _ _ _ c.args.left.now c.args.right.now i v.4 (rw (back w32 _ a, back w32 _ b, l.1, r.1) at c.put_frame.ensures))
-
--- how many frames there are
-all : (c : In-None) → length c.loop-l.yielded ≡ min (length c.args.left.now) (length c.args.right.now)
-all c =
-    let v = c.loop-l.invariant in
-    elim c.in-None.ensures.steps [
-      | inl e ↦ omega (arith, e.1.0, v.0, ap length v.1, length-drop (length c.loop-l.yielded) c.args.left.now)
-      | inr e ↦ omega (arith, e.1.0, v.0, ap length v.2, length-drop (length c.loop-l.yielded) c.args.right.now)
-    ]
-
-pub returns-clause-put : goal.returns-clause-put
-returns-clause-put c = rw (all c) at c.loop-l.invariant.4
-
-pub returns-clause-bound : goal.returns-clause-bound
-returns-clause-bound c = rw (all c) at c.loop-l.invariant.3

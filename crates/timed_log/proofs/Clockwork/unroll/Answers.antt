@@ -1,13 +1,12 @@
 use Rattle.std.specs.Prelude.{Option, Ok}
 use mathlib.Core.Path.{refl, sym, ap, subst, ◌∙◌}
-use mathlib.Core.List.{[], ◌++◌}
-use Prim.Native.Nat.{◌+◌, ◌-◌, ◌≤◌}
+use mathlib.Core.List.{[]}
+use Prim.Native.Nat.{◌+◌, ◌≤◌}
 use native.Mathlib.Omega.{arith}
 use lib.ListN.{length}
 use borrow.Author.Rules.{rules}
 use Rattle.timed_log.specs.declared.LineAhead.{LineAhead}
-use Rattle.timed_log.specs.Unrolled.{clock_most, clock_text}
-use Rattle.timed_log.specs.Unrolls.{line_room, gap_text, reach, unroll_from}
+use Rattle.timed_log.specs.Unrolls.{line_room, reach, unroll_from}
 use Rattle.timed_log.proofs.Found.{found-is}
 use Rattle.timed_log.proofs.Reaching.{rest-none, bad-none, unrolling-full, unrolling-long, unrolling-stays, unrolling-clock, unrolling-line, Promised}
 use Rattle.log_player.proofs.Rooms.{room-there, room-over}

@@ -5,4 +5,4 @@ use Rattle.tone.proofs.pcm.pcm_address.Goals as goal
 pub returns-clause-result : goal.returns-clause-result
 unfolding pcm_address
 returns-clause-result c = let a = c.args in
-    rw (c.wrapping_add_u64.ensures.value, c.mask_of.ensures) (refl)
+    rw (c.mask_of.ensures) (refl)

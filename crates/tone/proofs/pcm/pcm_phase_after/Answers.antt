@@ -1,11 +1,11 @@
-use Rattle.std.proofs.Common.{le-ltb, lt-ltb}
+use Rattle.std.proofs.Common.{refl, le-ltb, lt-ltb}
 use Rattle.tone.specs.Pcm.{pcm_phase_after}
 use Rattle.tone.proofs.pcm.pcm_phase_after.Goals as goal
 
 pub returns-then-address-end : goal.returns-then-address-end
 unfolding pcm_phase_after
 returns-then-address-end c = let a = c.args in
-    rw (lt-ltb a.address a.end c.if-address-end.true) c.wrapping_add_u64.ensures.value
+    rw (lt-ltb a.address a.end c.if-address-end.true) refl
 
 pub returns-then-loops : goal.returns-then-loops
 unfolding pcm_phase_after

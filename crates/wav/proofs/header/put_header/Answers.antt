@@ -6,7 +6,7 @@ pub returns : goal.returns
 unfolding wav_header
 returns c =
     puts-append _ _ _ _ _ c.put_bytes.ensures
-    (puts-append _ _ _ _ _ (rw c.riff_size.ensures at c.put_low.ensures)
+    (puts-append _ _ _ _ _ (rw (c.riff_size.ensures, c.unwrap_or-size.ensures) at c.put_low.ensures)
     (puts-append _ _ _ _ _ c.put_bytes-2.ensures
     (puts-append _ _ _ _ _ c.put_format.ensures
-    (puts-append _ _ _ _ _ c.put_bytes-3.ensures (rw c.data_size.ensures at c.put_low-2.ensures)))))
+    (puts-append _ _ _ _ _ c.put_bytes-3.ensures (rw (c.data_size.ensures, c.unwrap_or-size.ensures) at c.put_low-2.ensures)))))

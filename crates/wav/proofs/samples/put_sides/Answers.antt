@@ -1,10 +1,9 @@
-use mathlib.Core.Path.{◌≡◌, refl, ap}
-use mathlib.Core.Logic.{inl, inr}
+use mathlib.Core.Path.{◌≡◌, refl}
 use mathlib.Core.List.{[], ◌∷◌, ◌++◌}
-use Prim.Native.Nat.{◌+◌, min}
+use Prim.Native.Nat.{◌+◌}
 use native.Mathlib.Omega.{arith}
 use lib.IntN.{pos}
-use lib.ListN.{length, get_or, length-append, length-drop}
+use lib.ListN.{length, get_or, length-append}
 use mir.Syntax.{w16}
 use mir.Val.{SFits}
 use borrow.Author.Rules.{rules}
@@ -27,13 +26,3 @@ loop-l-preserved c =
     let a : SFits w16 c.in-Some.field-0-0.now = search rules in
     let b : SFits w16 c.in-Some.field-0-1.now = search rules in
     rw n (omega (arith, l.0, r.0), l.2, r.2, frames-next _ _ _ (λ i. get_or c.args.left.now i (pos 0)) (λ i. get_or c.args.right.now i (pos 0)) i v.3 (rw (back w16 _ a, back w16 _ b, l.1, r.1) at c.put_frame.ensures))
-
-pub returns : goal.returns
-returns c =
-    let v = c.loop-l.invariant in
-    let n : length c.loop-l.yielded ≡ min (length c.args.left.now) (length c.args.right.now) =
-    elim c.in-None.ensures.steps [
-      | inl e ↦ omega (arith, e.1.0, v.0, ap length v.1, length-drop (length c.loop-l.yielded) c.args.left.now)
-      | inr e ↦ omega (arith, e.1.0, v.0, ap length v.2, length-drop (length c.loop-l.yielded) c.args.right.now)
-    ] in
-    rw n at v.3
