@@ -8,7 +8,7 @@ use log_player::Player;
 use session::{LineCalled, LineRefusal};
 
 // Writes line k at out's beginning, if there is room for it.
-// Kept as it is: any k may be given, here, to take_line and to find, and an enum of the head and the eight voices would ask more of callers.
+// Kept as it is: any k may be given, here, to take_line and to find, and an enum of the head and the sixteen voices would ask more of callers.
 pub fn put_line(
     player: Player,
     ram: &[u8],
