@@ -1,5 +1,5 @@
 -- What a call answers, and document 01's numbers for calls turned away.
-use Rattle.std.specs.Prelude.{cond, List, [], ◌∷◌, ℕ, Result, Ok, Err, is_ok}
+use Rattle.std.specs.Prelude.{Bool, true, false, cond, List, [], ◌∷◌, ℕ, Result, Ok, Err, is_ok}
 use Rattle.s3w2.specs.declared.Returned.{Returned}
 use Rattle.s3w2.specs.declared.Returned.TheVariants.{Done, Byte, Sample, Count, Flag, Ended}
 use Rattle.s3w2.specs.declared.Refusal.{Refusal}
@@ -38,6 +38,16 @@ byte_returned (Ended x) = 0
 abbrev pub byte_answered : Answer → ℕ
 byte_answered (Ok x) = byte_returned x
 byte_answered (Err why) = 0
+
+-- whether a call was carried out that returns nothing
+abbrev pub is_done : Answer → Bool
+is_done (Ok Done) = true
+is_done (Ok (Byte x)) = false
+is_done (Ok (Sample x e)) = false
+is_done (Ok (Count x)) = false
+is_done (Ok (Flag x)) = false
+is_done (Ok (Ended x)) = false
+is_done (Err why) = false
 
 -- what a call leaves: `done` where it is not turned away
 abbrev pub unless : {A : Type 0} → Checked → A → A → A

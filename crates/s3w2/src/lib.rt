@@ -7,6 +7,7 @@ mod fresh;
 mod ram;
 mod refusals;
 
+pub use refusals::{is_done, number};
 use version::SguVersion;
 use voices::Core;
 

@@ -1,12 +1,29 @@
 // Why a call is turned away, in the order of docs/SPECIFICATION.md, section 12: RAM length, queue buffer, state, stem buffer.
 ghost use Rattle.std.specs.Prelude.{◌≡◌, eqb, ◌*◌, get_or};
 ghost use Rattle.cores.specs.Sizes.{chip_stems};
-ghost use Rattle.s3w2.specs.Answers.{refusal_number};
+ghost use Rattle.s3w2.specs.Answers.{is_done, number_of, refusal_number};
 ghost use Rattle.s3w2.specs.Refusals.{accepts_chip, own_refusal, ram_refusal, queues_refusal, sound_refusal, clock_refusal};
 
-use crate::{Chip, Refusal};
+use crate::{Answer, Chip, Refusal, Returned};
 use cores::CHIP_QUEUES;
 use sizes::RAM_MOST;
+
+// Whether a call was carried out that returns nothing.
+pub fn is_done(answer: Answer) -> bool
+    ensures { result ≡ is_done answer }
+{
+    matches!(answer, Ok(Returned::Done))
+}
+
+// The number of a refusal (docs/SPECIFICATION.md, section 12); 0 where it is none.
+pub fn number(answer: Answer) -> u8
+    ensures { result ≡ get_or (number_of answer) 0 0 }
+{
+    match answer {
+        Ok(_) => 0,
+        Err(refusal) => refusal.number(),
+    }
+}
 
 // Whether a stem buffer has 32 entries a frame.
 fn is_stem_buffer(length: usize, frames: usize) -> bool
