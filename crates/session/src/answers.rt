@@ -1,7 +1,7 @@
 // What the calls answer.
 ghost use Rattle.std.specs.Prelude.{◌≡◌, get_or, slice_get};
 ghost use Rattle.session.specs.declared.LineRefusal.TheVariants as refusals;
-ghost use Rattle.session.specs.Answers.{refusal_numbers, field_refused, voice_refused, line_answered};
+ghost use Rattle.session.specs.Answers.{refusal_numbers, numbers_of, field_refused, voice_refused, line_answered};
 
 use crate::{LineCalled, LineRefusal};
 use line_fields::{FieldError, RoomError};
@@ -12,6 +12,26 @@ pub(crate) fn answers(chip: Chip, answer: Result<(), LineRefusal>) -> LineCalled
     ensures { result ≡ line_answered chip answer }
 {
     LineCalled { chip, answer }
+}
+
+// The number of a refusal (docs/SPECIFICATION.md, section 12); 0 where it is none.
+pub fn number<A: Copy>(answer: Result<A, LineRefusal>) -> u8
+    ensures { result ≡ get_or (numbers_of answer) 0 0 }
+{
+    match answer {
+        Ok(_) => 0,
+        Err(refusal) => refusal.number(),
+    }
+}
+
+// The field at fault; 0 where there is none.
+pub fn field<A: Copy>(answer: Result<A, LineRefusal>) -> usize
+    ensures { result ≡ get_or (numbers_of answer) 1 0 }
+{
+    match answer {
+        Err(LineRefusal::Malformed(field)) => field,
+        _ => 0,
+    }
 }
 
 impl From<RoomError> for LineRefusal {

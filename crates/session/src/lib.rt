@@ -7,6 +7,7 @@ mod heads;
 mod reading;
 mod writing;
 
+pub use answers::{field, number};
 pub use heads::{read_head, write_head};
 pub use reading::{read_stored_voice, read_voice};
 use s3w2::{Chip, Refusal};
