@@ -7,7 +7,7 @@ mod packing;
 mod streams;
 
 use adpcm::Variant;
-pub use streams::{answer_for, write_stream};
+pub use streams::{answer_for, number, write_stream};
 
 // What a file is written with: one volume and one step index for all fragments.
 #[derive(Clone, Copy)]

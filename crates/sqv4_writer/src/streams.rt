@@ -1,7 +1,7 @@
 // The call: what it refuses, in the order of docs/SPECIFICATION.md, section 12, and the file.
-ghost use Rattle.std.specs.Prelude.{◌≡◌, length, ◌≤◌};
+ghost use Rattle.std.specs.Prelude.{◌≡◌, length, ◌≤◌, get_or};
 ghost use Rattle.std.proofs.lemmas.List.Edits.{sets};
-ghost use Rattle.sqv4_writer.specs.Streams.{out_of_terms, length_for, answer_for, written_into, file_of, error_number, max_samples};
+ghost use Rattle.sqv4_writer.specs.Streams.{out_of_terms, length_for, answer_for, written_into, file_of, error_number, number_of, max_samples};
 
 use crate::fragments::{fragment_count, put_fragments, put_header};
 use crate::{HEADER_SIZE, MAX_SAMPLES, MAX_STEP_INDEX, StreamError, Terms};
@@ -64,6 +64,16 @@ pub fn write_stream(samples: &[i16], terms: Terms, out: &mut [u8]) -> Result<usi
     let length = answer_for(samples.len(), terms, out.len())?;
     write_file(samples, terms, out);
     Ok(length)
+}
+
+// The number of a refusal (docs/SPECIFICATION.md, section 12); 0 where it is none.
+pub fn number(answer: Result<usize, StreamError>) -> u8
+    ensures { result ≡ get_or (number_of answer) 0 0 }
+{
+    match answer {
+        Ok(_) => 0,
+        Err(error) => error.number(),
+    }
 }
 
 impl StreamError {
