@@ -4,7 +4,7 @@
 mod parsing;
 mod text;
 
-pub use parsing::parse;
+pub use parsing::{number, parse};
 pub use text::{peak, put_bad, put_frames, put_peak, put_read_back};
 
 // A line of a log. An address is a register's, or a byte's in RAM.

@@ -1,6 +1,6 @@
 // A line, without its closing byte 10, taken apart.
 ghost use Rattle.std.specs.Prelude.{◌≡◌, ◌≢◌, ℕ};
-ghost use Rattle.log_lines.specs.Lines.{Within, one_at, two_at, addressed, clock_of, parsed_line, number_of};
+ghost use Rattle.log_lines.specs.Lines.{Within, one_at, two_at, addressed, clock_of, parsed_line, number_of, bad_number};
 
 use crate::{Line, LineFault};
 
@@ -63,6 +63,16 @@ impl LineFault {
             LineFault::Late => 18,
             LineFault::Crowded => 19,
         }
+    }
+}
+
+// The number of a bad line (docs/SPECIFICATION.md, section 12); 0 where it is none.
+pub fn number(line: Result<Line, LineFault>) -> u8
+    ensures { result ≡ bad_number line }
+{
+    match line {
+        Ok(_) => 0,
+        Err(fault) => fault.number(),
     }
 }
 
