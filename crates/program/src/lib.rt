@@ -57,10 +57,19 @@ pub fn say(text: &[u8]) {
     io::write_all(STDERR, text);
 }
 
-// Says why a program stops, behind its name.
+// Says why a program stops, behind its name: in one write, where both have room in it.
 pub fn complain(name: &[u8], reason: &[u8]) {
-    say(name);
-    say(reason);
+    let mut text = [0u8; 128];
+    let middle = name.len();
+    let end = middle + reason.len();
+    if text.len() < end {
+        say(name);
+        say(reason);
+        return;
+    }
+    text[..middle].copy_from_slice(name);
+    text[middle..end].copy_from_slice(reason);
+    say(&text[..end]);
 }
 
 // Writes a text to a descriptor, and answers whether it could; where it could not, that is said behind the program's name.

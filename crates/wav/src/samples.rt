@@ -10,7 +10,9 @@ use sizes::{LAST_CHANNEL, STEMS};
 fn put_sample(out: &mut Output<'_>, sample: i16)
     ensures { Puts out.old out.new (sample_bytes sample) }
 {
-    out.put_bytes(&sample.to_le_bytes());
+    let bytes = sample.to_le_bytes();
+    out.put_byte(bytes[0]);
+    out.put_byte(bytes[1]);
 }
 
 fn put_frame(out: &mut Output<'_>, left: i16, right: i16)
