@@ -1,11 +1,12 @@
 -- Document 02's lines with frame times, each without its closing byte 10.
-use Rattle.std.specs.Prelude.{Option, Some, Result, Ok, Err, None, cond, List, ℕ, ◌+◌, eqb, leb, ltb, length, get_or, drop}
+use Rattle.std.specs.Prelude.{Option, Some, Result, Ok, Err, None, cond, List, [], ◌∷◌, ℕ, ◌+◌, eqb, leb, ltb, length, get_or, drop}
 use Rattle.decimal.specs.Read.{natural_at, Numeral}
 use Rattle.log_lines.specs.declared.Line.{Line}
 use Rattle.log_lines.specs.declared.Line.TheVariants as plain
 use Rattle.log_lines.specs.declared.LineFault.{LineFault}
 use Rattle.log_lines.specs.declared.LineFault.TheVariants.{Malformed, Late, Crowded}
 use Rattle.log_lines.specs.Lines.{parsed_line}
+use Rattle.log_lines.specs.Lines as log
 use Rattle.log_player.specs.Steps.{first_line}
 use Rattle.timed_log.specs.declared.Due.{Due}
 use Rattle.timed_log.specs.declared.LineAhead.{LineAhead}
@@ -52,6 +53,11 @@ due_behind text None = Err Malformed
 
 unfoldable pub due_of : List ℕ → TimedLine
 due_of text = due_behind text (natural_at text 0)
+
+-- the number of a bad line, document 01's or document 02's; any other has none
+abbrev pub number_of : TimedLine → List ℕ
+number_of (Ok due) = []
+number_of (Err why) = log.number_of why ∷ []
 
 -- ---- a line behind others: 18 and 19
 -- how many of them are due at the same frame

@@ -7,6 +7,7 @@ mod lines;
 mod runs;
 mod unrolling;
 
+pub use lines::number;
 use log_lines::LineFault;
 use log_player::{Next, Player};
 use s3w2::Answer;

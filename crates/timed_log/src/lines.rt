@@ -1,6 +1,6 @@
 // A line of a timed log, without its closing byte 10.
-ghost use Rattle.std.specs.Prelude.{◌≡◌, drop};
-ghost use Rattle.timed_log.specs.Lines.{stamped_line, due_of, judged, next_due};
+ghost use Rattle.std.specs.Prelude.{◌≡◌, drop, get_or};
+ghost use Rattle.timed_log.specs.Lines.{stamped_line, due_of, number_of, judged, next_due};
 
 use crate::{Ahead, Clockwork, Due, LineAhead, TimedLine};
 use log_lines::{Line, LineFault};
@@ -29,6 +29,16 @@ fn due(text: &[u8]) -> TimedLine
     }
     let line = log_lines::parse(num::tail(text, next + 1));
     stamped(stamp, next + 1, line)
+}
+
+// The number of a bad line (docs/SPECIFICATION.md, section 12); 0 where it is none.
+pub fn number(line: TimedLine) -> u8
+    ensures { result ≡ get_or (number_of line) 0 0 }
+{
+    match line {
+        Ok(_) => 0,
+        Err(fault) => fault.number(),
+    }
 }
 
 impl Clockwork {
