@@ -7,6 +7,7 @@ ghost use Rattle.wav.specs.Samples.{sample_bytes, frame_bytes, samples_bytes, si
 use output::Output;
 use sizes::{LAST_CHANNEL, STEMS};
 
+// Its bytes go one by one: both at once are a call of the C library for each sample, which takes longer.
 fn put_sample(out: &mut Output<'_>, sample: i16)
     ensures { Puts out.old out.new (sample_bytes sample) }
 {
